@@ -1,0 +1,47 @@
+-- The numbers below a bound. Assumes nothing.
+--   up-in, in-up, length-up, distinct-up      upFrom a n: from a on, below a + n, n of them, no repeats
+--   pigeonhole                                numbers below n without repeats: at most n of them
+--   some-below                                bounded search: some number below n has it, or none has
+use mathlib.Core.Path.{_≡_, refl, ap}
+use mathlib.Core.Logic.{_⊎_, inl, inr, ⊎-elim}
+use mathlib.Core.Bool.{Bool, true, false}
+use mathlib.Core.List.{List}
+use Prim.Native.Nat.{ℕ, zero, suc, _+_, _≤_, _<_}
+use native.Mathlib.Omega.{arith}
+use lib.ListN.{length}
+use Rattle.counting.specs.Tests.{any, upFrom, below}
+use Rattle.counting.specs.Lists.{In, Within, Distinct}
+use Rattle.counting.proofs.Booleans.{by-test, true-false, same-or}
+use Rattle.counting.proofs.Membership.{any-some, some-any}
+use Rattle.counting.proofs.Pigeonhole.{distinct-within}
+
+pub up-in : (a n i : ℕ) → a ≤ i → i < a + n → In i (upFrom a n)
+unfolding upFrom
+up-in a zero i h l = absurd (omega arith)
+up-in a (suc n) i h l = ⊎-elim (λ e. inl e) (λ e. inr (up-in (suc a) n i (omega arith) (omega arith))) (same-or i a)
+
+pub in-up : (a n i : ℕ) → In i (upFrom a n) → (a ≤ i) × (i < a + n)
+unfolding upFrom
+in-up a zero i m = absurd m
+in-up a (suc n) i (inl e) = omega arith
+in-up a (suc n) i (inr m) = omega (arith, in-up (suc a) n i m)
+
+pub length-up : (a n : ℕ) → length (upFrom a n) ≡ n
+unfolding upFrom
+length-up a zero = refl
+length-up a (suc n) = ap suc (length-up (suc a) n)
+
+pub distinct-up : (a n : ℕ) → Distinct (upFrom a n)
+unfolding upFrom
+distinct-up a zero = tt
+distinct-up a (suc n) = (λ m. omega (arith, in-up (suc a) n a m), distinct-up (suc a) n)
+
+pub pigeonhole : (n : ℕ) (xs : List ℕ) → Distinct xs → Within (λ (x : ℕ). x < n) xs → length xs ≤ n
+pigeonhole n xs d w =
+    omega (arith, length-up 0 n, distinct-within xs (below n) d (λ x m. up-in 0 n x (omega arith) (omega (arith, w x m))))
+
+pub some-below : (f : ℕ → Bool) (n : ℕ) → ((i : ℕ) × (i < n) × (f i ≡ true)) ⊎ ((i : ℕ) → i < n → f i ≡ false)
+some-below f n =
+    by-test (any f (below n))
+    (λ t. let r = any-some f (below n) t in inl (r .0, omega (arith, in-up 0 n (r .0) (r .1)), r .2))
+    (λ t. inr (λ i h. by-test (f i) (λ s. true-false (some-any f i (below n) (up-in 0 n i (omega arith) (omega arith)) s) t) (λ s. s)))

@@ -1,0 +1,16 @@
+-- A pair of numbers (document 03): an arc's tail and head, a fit's two cameras, the numbers of a body frame.
+--   pair a b    the pair of a and b
+--   ends xs     the numbers of the pairs, both of each, in order
+use mathlib.Core.List.{List, [], _∷_}
+use Prim.Native.Nat.{ℕ}
+
+pub record Pair : Type 0 where
+  pub first : ℕ
+  pub second : ℕ
+
+abbrev pub pair : ℕ → ℕ → Pair
+pair a b = record { first = a; second = b }
+
+unfoldable pub ends : List Pair → List ℕ
+ends [] = []
+ends (x ∷ xs) = x .first ∷ x .second ∷ ends xs

@@ -1,0 +1,1 @@
+// Theory without code: what the other crates' proofs count with, stated once over finite lists.
