@@ -11,7 +11,7 @@ use mathlib.Core.List.{List, [], _∷_}
 use Prim.Native.Nat.{ℕ, _+_}
 use native.Mathlib.Omega.{arith}
 use lib.ListN.{length}
-use Rattle.counting.specs.Tests.{pick, keep}
+use Rattle.counting.specs.Tests.{keep}
 use Rattle.counting.specs.Lists.{In, Distinct, find}
 use Rattle.counting.proofs.Booleans.{by-test}
 

@@ -3,7 +3,7 @@
 --   number-le, -lt      it rises, and at each element that passes
 --   number-suc, -zero   one step, and the start
 --   number-find         every number below one that is given is given
-use mathlib.Core.Path.{_≡_, refl, subst}
+use mathlib.Core.Path.{_≡_, subst}
 use mathlib.Core.Logic.{_⊎_, inl, inr, ⊎-elim}
 use mathlib.Core.Bool.{Bool, true, _&&_}
 use mathlib.Core.List.{List, [], _∷_}

@@ -1,5 +1,6 @@
 -- A pair of numbers (document 03): an arc's tail and head, a fit's two cameras, the numbers of a body frame.
 --   pair a b    the pair of a and b
+--   noPair      the pair of zeros, read past a list's end
 --   ends xs     the numbers of the pairs, both of each, in order
 use mathlib.Core.List.{List, [], _∷_}
 use Prim.Native.Nat.{ℕ}
@@ -10,6 +11,9 @@ pub record Pair : Type 0 where
 
 abbrev pub pair : ℕ → ℕ → Pair
 pair a b = record { first = a; second = b }
+
+abbrev pub noPair : Pair
+noPair = pair 0 0
 
 unfoldable pub ends : List Pair → List ℕ
 ends [] = []

@@ -1,0 +1,1 @@
+// Files of hexadecimal frames: read and written.

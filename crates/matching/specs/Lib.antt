@@ -1,0 +1,3 @@
+-- Definitions of the theory.
+--   Stock    stocks, pairings, marks, plans
+pub mod Stock

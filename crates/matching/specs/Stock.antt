@@ -1,0 +1,102 @@
+-- Stocks, pairings, the greatest number of pairs, marks and plans (document 01, "Stocks"; the definitions are document 03's). A fit is an edge,
+-- a pairing a matching, and the marks are the Gallai-Edmonds decomposition. Assumes nothing: these are definitions.
+--   Stock                          cameras, fits and lit pairs
+--   isPairing                      fits, no camera in two
+--   allPairings, greatest          every pairing of some fits; the most pairs one has
+--   leftOver, markOf, marksOf      marks, by all largest pairings
+--   pairsRise                      smaller camera first, rising: by first camera, then by second
+--   isPlan                         a largest pairing that keeps lit cameras lit; the lit pairs if they are largest
+use mathlib.Core.Bool.{Bool, true, false, _&&_, _||_, not}
+use mathlib.Core.List.{List, [], _∷_, _++_}
+use Prim.Native.Nat.{ℕ}
+use lib.Dec.{ltb, eqb}
+use lib.ListN.{length}
+use Rattle.counting.specs.Tests.{pick, all, any, below}
+use Rattle.counting.specs.Pairs.{Pair}
+
+-- A STOCK: cameras, fits and lit pairs
+pub record Stock : Type 0 where
+  pub cameras : ℕ
+  pub fits : List Pair
+  pub lit : List Pair
+
+abbrev pub samePair : Pair → Pair → Bool
+samePair x y = eqb (x .first) (y .first) && eqb (x .second) (y .second)
+
+unfoldable pub hasPair : List Pair → Pair → Bool
+hasPair [] x = false
+hasPair (y ∷ ys) x = samePair x y || hasPair ys x
+
+abbrev pub touches : Pair → (camera : ℕ) → Bool
+touches x u = eqb (x .first) u || eqb (x .second) u
+
+abbrev pub isIncluded : List Pair → (camera : ℕ) → Bool
+isIncluded xs u = any (λ (x : Pair). touches x u) xs
+
+abbrev pub meets : Pair → Pair → Bool
+meets x y = touches x (y .first) || touches x (y .second)
+
+-- A PAIRING: fits, no camera in two
+unfoldable pub noneShared : List Pair → Bool
+noneShared [] = true
+noneShared (x ∷ xs) = not (any (meets x) xs) && noneShared xs
+
+abbrev pub isPairing : List Pair → (pairs : List Pair) → Bool
+isPairing fs ps = all (hasPair fs) ps && noneShared ps
+
+-- all pairings, each once: fits taken or left in order
+unfoldable pub withFirst : Pair → List (List Pair) → List (List Pair)
+withFirst x [] = []
+withFirst x (ps ∷ rest) = pick (any (meets x) ps) (withFirst x rest) ((x ∷ ps) ∷ withFirst x rest)
+
+unfoldable pub allPairings : List Pair → List (List Pair)
+allPairings [] = [] ∷ []
+allPairings (x ∷ xs) = withFirst x (allPairings xs) ++ allPairings xs
+
+unfoldable pub mostOf : List (List Pair) → ℕ
+mostOf [] = 0
+mostOf (ps ∷ rest) = pick (ltb (mostOf rest) (length ps)) (length ps) (mostOf rest)
+
+abbrev pub greatest : List Pair → ℕ
+greatest fs = mostOf (allPairings fs)
+
+-- MARKS: 0 some largest pairing leaves it over; 1 it fits such a camera; 2 neither
+abbrev pub leftOver : List Pair → (camera : ℕ) → Bool
+leftOver fs u = any (λ (ps : List Pair). eqb (length ps) (greatest fs) && not (isIncluded ps u)) (allPairings fs)
+
+abbrev pub fitsLeftOver : List Pair → (camera : ℕ) → Bool
+fitsLeftOver fs u =
+    any (λ (x : Pair). (eqb (x .first) u && leftOver fs (x .second)) || (eqb (x .second) u && leftOver fs (x .first))) fs
+
+abbrev pub markOf : List Pair → (camera : ℕ) → ℕ
+markOf fs u = pick (leftOver fs u) 0 (pick (fitsLeftOver fs u) 1 2)
+
+unfoldable pub marksFrom : List Pair → (cameras : List ℕ) → List ℕ
+marksFrom fs [] = []
+marksFrom fs (u ∷ us) = markOf fs u ∷ marksFrom fs us
+
+abbrev pub marksOf : (cameras : ℕ) → List Pair → List ℕ
+marksOf n fs = marksFrom fs (below n)
+
+-- A PLAN: a largest pairing that leaves no lit camera unlit; the lit pairs if they are largest; smaller camera first, rising
+abbrev pub pairBefore : Pair → Pair → Bool
+pairBefore x y = ltb (x .first) (y .first) || (eqb (x .first) (y .first) && ltb (x .second) (y .second))
+
+unfoldable pub pairsRise : List Pair → Bool
+pairsRise [] = true
+pairsRise (x ∷ []) = ltb (x .first) (x .second)
+pairsRise (x ∷ y ∷ rest) = ltb (x .first) (x .second) && pairBefore x y && pairsRise (y ∷ rest)
+
+unfoldable pub samePairs : List Pair → List Pair → Bool
+samePairs [] [] = true
+samePairs [] (y ∷ ys) = false
+samePairs (x ∷ xs) [] = false
+samePairs (x ∷ xs) (y ∷ ys) = samePair x y && samePairs xs ys
+
+abbrev pub keepsLit : Stock → (pairs : List Pair) → Bool
+keepsLit s ps = all (λ (u : ℕ). not (isIncluded (s .lit) u) || isIncluded ps u) (below (s .cameras))
+
+abbrev pub isPlan : Stock → (pairs : List Pair) → Bool
+isPlan s ps =
+    isPairing (s .fits) ps && eqb (length ps) (greatest (s .fits)) && keepsLit s ps && pairsRise ps &&
+    (not (eqb (length (s .lit)) (greatest (s .fits))) || samePairs ps (s .lit))

@@ -1,0 +1,1 @@
+// Theory without code: pairings of cameras, largest pairings, marks and plans.

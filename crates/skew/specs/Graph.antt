@@ -1,0 +1,161 @@
+-- Doubled (skew-symmetric) graphs, regular paths, barriers and the canonical barrier (document 01, "The graph" and "The barrier"; document 000,
+-- section 2; the definitions are document 03's). Assumes nothing: these are definitions.
+--   Graph, mate, nodes, arcAt, matesFit          graphs by numbered nodes and arcs
+--   nodesAlong, isJoined, noMates, endOf         a run of arcs
+--   isRegular, isWanted                          regular paths from the source; to the source's mate
+--   isReachable, hasPath                         some regular path ends there, found by trial
+--   classAt, arcFits, entriesInto, isBarrier     barriers, by a class for each node
+--   inX, partOf, partNumber, classOf, canonical  the canonical barrier
+use mathlib.Core.Bool.{Bool, true, _&&_, _||_, not}
+use mathlib.Core.List.{List, [], _∷_}
+use Prim.Native.Nat.{ℕ, zero, suc, _+_, _*_, _-_, _%_}
+use lib.Dec.{ltb, leb, eqb}
+use lib.ListN.{length, getD}
+use Rattle.counting.specs.Tests.{pick, all, any, among, below, noneTwice, keep}
+use Rattle.counting.specs.Pairs.{Pair, noPair}
+
+-- A GRAPH: mate pairs of nodes, the source, and arcs in file order
+pub record Graph : Type 0 where
+  pub pairs : ℕ
+  pub source : ℕ
+  pub arcs : List Pair
+
+-- the lowest bit flipped
+abbrev pub mate : ℕ → ℕ
+mate v = pick (eqb (v % 2) 0) (v + 1) (v - 1)
+
+abbrev pub nodes : Graph → ℕ
+nodes g = 2 * g .pairs
+
+abbrev pub arcAt : Graph → (arc : ℕ) → Pair
+arcAt g i = getD (g .arcs) i noPair
+
+-- from v to w: its mate goes from the mate of w to the mate of v
+abbrev pub areMates : Pair → Pair → Bool
+areMates x y = eqb (y .first) (mate (x .second)) && eqb (y .second) (mate (x .first))
+
+unfoldable pub matesFit : List Pair → Bool
+matesFit [] = true
+matesFit (x ∷ []) = true
+matesFit (x ∷ y ∷ rest) = areMates x y && matesFit rest
+
+-- A REGULAR PATH as arc numbers: each starts where the one before ended; no node twice, no arc with its mate
+unfoldable pub nodesAlong : Graph → (from : ℕ) → (arcs : List ℕ) → List ℕ
+nodesAlong g v [] = v ∷ []
+nodesAlong g v (i ∷ is) = v ∷ nodesAlong g (arcAt g i .second) is
+
+unfoldable pub isJoined : Graph → (from : ℕ) → (arcs : List ℕ) → Bool
+isJoined g v [] = true
+isJoined g v (i ∷ is) = ltb i (length (g .arcs)) && eqb (arcAt g i .first) v && isJoined g (arcAt g i .second) is
+
+unfoldable pub noMates : (arcs : List ℕ) → Bool
+noMates [] = true
+noMates (i ∷ is) = not (among (mate i) is) && noMates is
+
+unfoldable pub endOf : Graph → (from : ℕ) → (arcs : List ℕ) → ℕ
+endOf g v [] = v
+endOf g v (i ∷ is) = endOf g (arcAt g i .second) is
+
+abbrev pub isRegular : Graph → (arcs : List ℕ) → Bool
+isRegular g is = isJoined g (g .source) is && noneTwice (nodesAlong g (g .source) is) && noMates is
+
+abbrev pub isWanted : Graph → (arcs : List ℕ) → Bool
+isWanted g is = isRegular g is && eqb (endOf g (g .source) is) (mate (g .source))
+
+-- REACHABLE: a regular path from the source ends there; tried step by step. Fuel: the nodes
+unfoldable pub reachesFrom : ℕ → Graph → (at to : ℕ) → (seen used : List ℕ) → Bool
+reachesFrom zero g v w ss us = eqb v w
+reachesFrom (suc n) g v w ss us =
+    eqb v w ||
+    any
+    (λ (i : ℕ).
+    eqb (arcAt g i .first) v && not (among (arcAt g i .second) ss) && not (among (mate i) us) &&
+    reachesFrom n g (arcAt g i .second) w (arcAt g i .second ∷ ss) (i ∷ us))
+    (below (length (g .arcs)))
+
+abbrev pub isReachable : Graph → (node : ℕ) → Bool
+isReachable g w = reachesFrom (nodes g) g (g .source) w (g .source ∷ []) []
+
+abbrev pub hasPath : Graph → Bool
+hasPath g = isReachable g (mate (g .source))
+
+-- A BARRIER by classes: 0 M, 1 A, 2 A', 3 X1 and so on
+abbrev pub classAt : (classes : List ℕ) → (node : ℕ) → ℕ
+classAt cs v = getD cs v 0
+
+abbrev pub isX : (class : ℕ) → Bool
+isX c = leb 3 c
+
+unfoldable pub largestOf : List ℕ → ℕ
+largestOf [] = 0
+largestOf (x ∷ xs) = pick (ltb (largestOf xs) x) x (largestOf xs)
+
+-- A' is the mates of A; each Xi, and so M, closed under mates
+abbrev pub mateClass : (class : ℕ) → ℕ
+mateClass c = pick (eqb c 1) 2 (pick (eqb c 2) 1 c)
+
+abbrev pub matesAgree : (classes : List ℕ) → (node : ℕ) → Bool
+matesAgree cs v = eqb (classAt cs (mate v)) (mateClass (classAt cs v))
+
+unfoldable pub entriesInto : (classes : List ℕ) → (class : ℕ) → List Pair → ℕ
+entriesInto cs c [] = 0
+entriesInto cs c (x ∷ xs) =
+    pick (eqb (classAt cs (x .first)) 1 && eqb (classAt cs (x .second)) c) 1 0 + entriesInto cs c xs
+
+-- no arc between two different Xi, between an Xi and M, or from A into A' or M
+abbrev pub isXM : (class : ℕ) → Bool
+isXM c = isX c || eqb c 0
+
+abbrev pub arcFits : (classes : List ℕ) → Pair → Bool
+arcFits cs x =
+    not
+    (isXM (classAt cs (x .first)) && isXM (classAt cs (x .second)) && not (eqb (classAt cs (x .first)) (classAt cs (x .second)))) &&
+    not (eqb (classAt cs (x .first)) 1 && (eqb (classAt cs (x .second)) 2 || eqb (classAt cs (x .second)) 0))
+
+abbrev pub isBarrier : Graph → (classes : List ℕ) → Bool
+isBarrier g cs =
+    eqb (length cs) (nodes g) && eqb (classAt cs (g .source)) 1 && all (matesAgree cs) (below (nodes g)) && all (arcFits cs) (g .arcs) &&
+    all (λ (c : ℕ). ltb c 3 || eqb (entriesInto cs c (g .arcs)) 1) (below (suc (largestOf cs)))
+
+-- THE CANONICAL BARRIER: Z and its mates; connected parts of X, numbered by their least node
+abbrev pub inX : Graph → (node : ℕ) → Bool
+inX g v = isReachable g v && isReachable g (mate v)
+
+abbrev pub joinsIn : Graph → (one other : ℕ) → Bool
+joinsIn g v w = any (λ (x : Pair). (eqb (x .first) v && eqb (x .second) w) || (eqb (x .first) w && eqb (x .second) v)) (g .arcs)
+
+unfoldable pub partOnce : Graph → (members : List ℕ) → (reached : List ℕ) → List ℕ
+partOnce g [] vs = vs
+partOnce g (m ∷ ms) vs = pick (not (among m vs) && any (joinsIn g m) vs) (partOnce g ms (m ∷ vs)) (partOnce g ms vs)
+
+unfoldable pub partBy : ℕ → Graph → (members reached : List ℕ) → List ℕ
+partBy zero g ms vs = vs
+partBy (suc n) g ms vs = partBy n g ms (partOnce g ms vs)
+
+abbrev pub xNodes : Graph → List ℕ
+xNodes g = keep (inX g) (below (nodes g))
+
+abbrev pub partOf : Graph → (node : ℕ) → List ℕ
+partOf g v = partBy (length (xNodes g)) g (xNodes g) (v ∷ [])
+
+unfoldable pub leastOf : (least : ℕ) → List ℕ → ℕ
+leastOf a [] = a
+leastOf a (x ∷ xs) = leastOf (pick (ltb x a) x a) xs
+
+abbrev pub isFirst : Graph → (node : ℕ) → Bool
+isFirst g v = eqb (leastOf v (partOf g v)) v
+
+-- parts that begin before a node's part
+abbrev pub partNumber : Graph → (node : ℕ) → ℕ
+partNumber g v = length (keep (λ (w : ℕ). ltb w (leastOf v (partOf g v)) && isFirst g w) (xNodes g))
+
+abbrev pub classOf : Graph → (node : ℕ) → ℕ
+classOf g v =
+    pick (inX g v) (3 + partNumber g v) (pick (isReachable g v) 1 (pick (isReachable g (mate v)) 2 0))
+
+unfoldable pub classesFrom : Graph → (ordered : List ℕ) → List ℕ
+classesFrom g [] = []
+classesFrom g (v ∷ vs) = classOf g v ∷ classesFrom g vs
+
+abbrev pub canonical : Graph → List ℕ
+canonical g = classesFrom g (below (nodes g))

@@ -1,0 +1,1 @@
+// Theory without code: skew-symmetric graphs, regular paths and barriers.
