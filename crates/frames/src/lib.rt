@@ -1,1 +1,3 @@
 // Files of hexadecimal frames: read and written.
+pub mod numbers; // digits, and numbers of two and four digits
+pub mod lines; // where a line ends, and whether a file is whole lines of digits

@@ -1,0 +1,37 @@
+-- Lines by their places in a file (document 01, "Frames"). What ends a line is said in `lineEnd` alone.
+--   lineEnd s              how many bytes the line end takes that stands at the front of s; 0 where none stands there
+--   lineLength s           how many bytes stand before the first line end of s
+--   part i e f             the bytes of f from i up to, not including, e
+--   isPlain n l            the line l is n digits
+--   LineAt f at end next   the line of f that begins at `at` ends before `end`, and what follows its line end begins at `next`
+use mathlib.Core.Path.{_≡_}
+use mathlib.Core.Bool.{Bool, _&&_}
+use mathlib.Core.List.{List, [], _∷_}
+use Prim.Native.Nat.{ℕ, suc, _+_, _-_, _<_, _≤_}
+use lib.Dec.{eqb, ltb}
+use lib.ListN.{length, take, drop}
+use Rattle.counting.specs.Tests.{pick, all}
+use Rattle.frames.specs.Frames.{isDigit}
+
+unfoldable pub lineEnd : List ℕ → ℕ
+lineEnd [] = 0
+lineEnd (c ∷ cs) = pick (eqb c 10) 1 0
+
+unfoldable pub lineLength : List ℕ → ℕ
+lineLength [] = 0
+lineLength (c ∷ cs) = pick (ltb 0 (lineEnd (c ∷ cs))) 0 (suc (lineLength cs))
+
+abbrev pub part : (from to : ℕ) → List ℕ → List ℕ
+part i e f = take (e - i) (drop i f)
+
+abbrev pub isPlain : (size : ℕ) → List ℕ → Bool
+isPlain n l = eqb (length l) n && all isDigit l
+
+pub record LineAt (f : List ℕ) (at end next : ℕ) : Type 0 where
+  pub inside : at < length f
+  pub ends : end ≡ at + lineLength (drop at f)
+  pub goes : next ≡ end + lineEnd (drop end f)
+  pub low : at ≤ end
+  pub past : end ≤ next
+  pub on : at < next
+  pub high : next ≤ length f
