@@ -1,0 +1,299 @@
+//! Document 01's examples, edges and traps, each with what the document says of it, and the points that it leaves to the reader.
+//!   graphs, stocks            G1 to G5, S1 to S7
+//!   graph_examples ..         what is tried on an engine
+//!   examples_folder           the files of examples/ are these, and their answers are right
+
+use crate::engine::{Tally, Verdict};
+use crate::frames::{barrier_file, file, graph_file, pair_lines, path_file, plan_file, sheet_file, stock_file, Pair};
+use crate::generate::all_fits;
+use crate::graph_trial::{self, Graph};
+use crate::judge::{shown, Call, Judge, Trial, LEAST_ROOM};
+use crate::stock_trial::{self, Stock};
+use crate::truth::{graph_owed, graph_truth, plan_owed, sheet_owed, stock_truth, Count};
+use std::fs;
+
+const G3: [Pair; 2] = [(0, 2), (3, 1)];
+const G4: [Pair; 4] = [(0, 2), (3, 1), (2, 3), (2, 3)];
+const G5: [Pair; 6] = [(0, 2), (3, 1), (2, 3), (2, 3), (0, 2), (3, 1)];
+const S7: [Pair; 7] = [(0, 1), (0, 2), (1, 2), (2, 3), (3, 4), (3, 5), (4, 5)];
+
+fn graph(pairs: usize, arcs: &[Pair]) -> Graph {
+    Graph { pairs, source: 0, arcs: arcs.to_vec() }
+}
+
+fn stock(cameras: usize, fits: &[Pair], lit: &[Pair]) -> Stock {
+    Stock { cameras, fits: fits.to_vec(), lit: lit.to_vec() }
+}
+
+/// Each graph with the answers that are right.
+pub fn graphs() -> Vec<(&'static str, Graph, Vec<Vec<u8>>)> {
+    let barrier = |classes: &[usize]| vec![barrier_file(classes)];
+    vec![
+        ("G1", graph(1, &[]), vec![b"31\n320001\n320102\n3F0002\n".to_vec()]),
+        ("G2", graph(1, &[(0, 1), (0, 1)]), vec![path_file(&[0]), path_file(&[1])]),
+        ("G3", graph(2, &G3), barrier(&[1, 2, 1, 2])),
+        ("G4", graph(2, &G4), barrier(&[1, 2, 3, 3])),
+        ("G5", graph(2, &G5), [[0, 2, 5], [0, 3, 5], [4, 2, 1], [4, 3, 1]].iter().map(|arcs| path_file(arcs)).collect()),
+    ]
+}
+
+/// Each stock with its sheet and the plans that are right.
+pub fn stocks() -> Vec<(&'static str, Stock, Vec<u8>, Vec<Vec<u8>>)> {
+    let ring = [(0, 1), (0, 4), (1, 2), (2, 3), (3, 4)];
+    let two_of_ring = [[(0, 1), (2, 3)], [(0, 1), (3, 4)], [(0, 4), (1, 2)], [(0, 4), (2, 3)], [(1, 2), (3, 4)]];
+    let triangle = [(0, 1), (0, 2), (1, 2)];
+    let star = [(0, 1), (0, 2), (0, 3)];
+    let chain = [(0, 1), (1, 2), (2, 3)];
+    vec![
+        ("S1", stock(0, &[], &[]), b"4100\n4F0000\n".to_vec(), vec![plan_file(&[])]),
+        ("S2", stock(2, &[(0, 1)], &[]), sheet_file(1, &[2, 2]), vec![plan_file(&[(0, 1)])]),
+        (
+            "S3",
+            stock(3, &triangle, &[]),
+            b"4101\n430000\n430100\n430200\n4F0003\n".to_vec(),
+            triangle.iter().map(|fit| plan_file(&[*fit])).collect(),
+        ),
+        ("S4", stock(4, &star, &[]), sheet_file(1, &[1, 0, 0, 0]), star.iter().map(|fit| plan_file(&[*fit])).collect()),
+        ("S5", stock(4, &chain, &[(1, 2)]), sheet_file(2, &[2, 2, 2, 2]), vec![b"5102\n520001\n520203\n5F0002\n".to_vec()]),
+        ("S6", stock(5, &ring, &[]), sheet_file(2, &[0, 0, 0, 0, 0]), two_of_ring.iter().map(|pairs| plan_file(pairs)).collect()),
+        ("S7", stock(6, &S7, &[]), sheet_file(3, &[2; 6]), vec![plan_file(&[(0, 1), (2, 3), (4, 5)])]),
+    ]
+}
+
+// ---- what is tried
+
+/// What the trial itself says, against document 01.
+fn by_trial<T: PartialEq + std::fmt::Debug>(file: &[u8], found: T, right: T) -> Trial {
+    if found == right {
+        Ok(())
+    } else {
+        Err(format!("the trial says {found:?}, document 01 {right:?}\n{}", shown(file)))
+    }
+}
+
+fn one_of(name: &str, answer: &[u8], right: &[Vec<u8>]) -> Trial {
+    if right.iter().any(|text| text == answer) {
+        Ok(())
+    } else {
+        Err(format!("{name}: document 01 does not allow\n{}", shown(answer)))
+    }
+}
+
+fn graph_answer(judge: &mut Judge, file: &[u8]) -> Result<Vec<u8>, String> {
+    judge.lend(Call::Graph, file, LEAST_ROOM, &graph_owed(&graph_truth(file)))
+}
+
+fn plan_answer(judge: &mut Judge, file: &[u8]) -> Result<Vec<u8>, String> {
+    judge.lend(Call::Plan, file, LEAST_ROOM, &plan_owed(&stock_truth(file)))
+}
+
+fn sheet_answer(judge: &mut Judge, file: &[u8]) -> Result<Vec<u8>, String> {
+    judge.lend(Call::Sheet, file, LEAST_ROOM, &sheet_owed(&stock_truth(file)))
+}
+
+pub fn graph_examples(judge: &mut Judge) -> Trial {
+    for (name, graph, right) in graphs() {
+        judge.graph(&graph.file())?;
+        let answer = graph_answer(judge, &graph.file())?;
+        one_of(name, &answer, &right)?;
+        for text in right {
+            verdict(judge, &graph.file(), &text, Verdict::Yes)?;
+        }
+    }
+    Ok(())
+}
+
+pub fn stock_examples(judge: &mut Judge) -> Trial {
+    for (name, stock, sheet, plans) in stocks() {
+        judge.stock(&stock.file())?;
+        let answer = sheet_answer(judge, &stock.file())?;
+        one_of(name, &answer, &[sheet])?;
+        let answer = plan_answer(judge, &stock.file())?;
+        one_of(name, &answer, &plans)?;
+    }
+    Ok(())
+}
+
+/// The trial and the engine both say so.
+fn verdict(judge: &mut Judge, graph: &[u8], certificate: &[u8], right: Verdict) -> Trial {
+    by_trial(certificate, graph_trial::check(graph, certificate), right)?;
+    judge.certificate(graph, certificate)
+}
+
+fn graph_refusal(judge: &mut Judge, file: &[u8], right: u8) -> Trial {
+    by_trial(file, graph_trial::read(file).err().unwrap_or(0), right)?;
+    judge.graph(file)
+}
+
+fn stock_refusal(judge: &mut Judge, file: &[u8], right: u8) -> Trial {
+    by_trial(file, stock_trial::read(file).err().unwrap_or(0), right)?;
+    judge.stock(file)
+}
+
+/// A graph of some mate pairs with that many parallel arcs 0 to 2 and back.
+fn graph_of_arcs(pairs: usize, number: usize) -> Vec<u8> {
+    let arcs: Vec<Pair> = G3.iter().copied().cycle().take(number).collect();
+    graph_file(pairs, 0, &arcs)
+}
+
+pub fn edges(judge: &mut Judge) -> Trial {
+    graph_refusal(judge, &graph_file(0x80, 0, &[]), 0)?;
+    graph_refusal(judge, &graph_file(0x80, 0xFF, &[]), 0)?;
+    graph_refusal(judge, &graph_file(0x00, 0, &[]), 5)?;
+    graph_refusal(judge, &graph_file(0x81, 0, &[]), 5)?;
+    graph_refusal(judge, &graph_file(2, 4, &[]), 5)?;
+    graph_refusal(judge, &graph_of_arcs(2, 8_192), 0)?;
+    graph_refusal(judge, &graph_of_arcs(2, 1), 8)?;
+    graph_refusal(judge, &graph_of_arcs(2, 8_191), 8)?;
+    graph_refusal(judge, &graph_of_arcs(2, 8_194), 8)?;
+    stock_refusal(judge, &stock_file(0x7F, &all_fits(127)[..3_900], &[]), 0)?;
+    stock_refusal(judge, &stock_file(0x7F, &all_fits(127)[..3_901], &[]), 8)?;
+    stock_refusal(judge, &stock_file(0x80, &[], &[]), 5)?;
+    stock_refusal(judge, &stock_file(0xFF, &[], &[]), 5)?;
+    graph_refusal(judge, b"", 4)?;
+    stock_refusal(judge, b"", 4)?;
+    graph_refusal(judge, b"010100\n", 6)?;
+    stock_refusal(judge, b"1100\n", 6)?;
+    verdict(judge, &graph(1, &[]).file(), &path_file(&[]), Verdict::No)?;
+    verdict(judge, &graph(2, &G5).file(), &path_file(&[]), Verdict::No)?;
+    for room in [0, 1, 2_046, 2_047, 2_048, 2_049, 60_000] {
+        let (g4, s7) = (graph(2, &G4).file(), stock(6, &S7, &[]).file());
+        judge.lend(Call::Graph, &g4, room, &graph_owed(&graph_truth(&g4)))?;
+        judge.lend(Call::Plan, &s7, room, &plan_owed(&stock_truth(&s7)))?;
+        judge.lend(Call::Sheet, &s7, room, &sheet_owed(&stock_truth(&s7)))?;
+        judge.lend(Call::Sheet, b"", room, &sheet_owed(&stock_truth(b"")))?;
+    }
+    file_lengths(judge)
+}
+
+/// 60,000 bytes pass question 2 and 60,001 do not.
+fn file_lengths(judge: &mut Judge) -> Trial {
+    for (length, right) in [(59_999, 3), (60_000, 3), (60_001, 2), (70_000, 2), (200_000, 2)] {
+        let zeros = vec![b'0'; length];
+        graph_refusal(judge, &zeros, right)?;
+        stock_refusal(judge, &zeros, right)?;
+        let added = 40 + right;
+        verdict(judge, &graph(2, &G4).file(), &zeros, Verdict::Refused(added))?;
+    }
+    // 60,000 bytes in two lines: the first is no header
+    let mut long = vec![b'0'; 60_000];
+    long[6] = b'\n';
+    long[59_999] = b'\n';
+    graph_refusal(judge, &long, 4)
+}
+
+pub fn traps(judge: &mut Judge) -> Trial {
+    let bare = stock(6, &S7, &[(0, 2), (3, 5)]).file();
+    let answer = plan_answer(judge, &bare)?;
+    one_of("S7 with lit 0-2 and 3-5", &answer, &[plan_file(&[(0, 1), (2, 3), (4, 5)])])?;
+    verdict(judge, &graph(2, &G4).file(), &path_file(&[0, 2, 1]), Verdict::No)?;
+    verdict(judge, &graph(2, &G5).file(), &path_file(&[0, 2, 5]), Verdict::Yes)?;
+    // the bud of 2 and 3, and from it over an arc the bud of 4 and 5
+    let joined = graph(3, &[(0, 2), (3, 1), (2, 3), (2, 3), (2, 4), (5, 3), (4, 5), (4, 5)]).file();
+    let answer = graph_answer(judge, &joined)?;
+    one_of("two buds joined by an arc", &answer, &[barrier_file(&[1, 2, 3, 3, 3, 3])])?;
+    for lit in [&[][..], &[(0, 1)], &[(0, 2)], &[(1, 2)]] {
+        let triangle = stock(3, &[(0, 1), (0, 2), (1, 2)], lit).file();
+        let answer = sheet_answer(judge, &triangle)?;
+        one_of("S3 with a pair lit", &answer, &[sheet_file(1, &[0, 0, 0])])?;
+    }
+    judge.stock(&bare)
+}
+
+/// Counts at their largest value remain there; the others rise one by one.
+pub fn tallies(judge: &mut Judge) -> Trial {
+    let (barred, open) = (graph(1, &[]).file(), graph(1, &[(0, 1), (0, 1)]).file());
+    let chain = stock(4, &[(0, 1), (1, 2), (2, 3)], &[(1, 2)]).file();
+    let calls: [(Call, &[u8], Count); 8] = [
+        (Call::Graph, &open, Count::Paths),
+        (Call::Graph, &barred, Count::Barriers),
+        (Call::Plan, &chain, Count::Stocks),
+        (Call::Sheet, &chain, Count::Stocks),
+        (Call::Graph, b"", Count::Refusals),
+        (Call::Plan, &barred, Count::Refusals),
+        (Call::Sheet, b"\n", Count::Refusals),
+        (Call::Graph, &open, Count::Paths),
+    ];
+    for start in [0, 7, u32::MAX - 2, u32::MAX - 1, u32::MAX] {
+        judge.in_a_row(Tally { paths: start, barriers: start, stocks: start, refusals: start }, &calls)?;
+        judge.in_a_row(Tally { paths: start, ..Tally::default() }, &calls)?;
+        judge.in_a_row(Tally { barriers: start, ..Tally::default() }, &calls)?;
+        judge.in_a_row(Tally { stocks: start, ..Tally::default() }, &calls)?;
+        judge.in_a_row(Tally { refusals: start, ..Tally::default() }, &calls)?;
+    }
+    Ok(())
+}
+
+pub fn points_left_to_the_reader(judge: &mut Judge) -> Trial {
+    let (g4, g5) = (graph(2, &G4).file(), graph(2, &G5).file());
+    graph_refusal(judge, b"\n", 3)?;
+    stock_refusal(judge, b"\n", 3)?;
+    // question 8 counts fits and not lit lines
+    let lit: Vec<Pair> = (0..15).map(|camera| (2 * camera, 2 * camera + 1)).collect();
+    stock_refusal(judge, &stock_file(0x7F, &all_fits(127)[..3_900], &lit), 0)?;
+    stock_refusal(judge, &stock_file(0x7F, &all_fits(127)[..3_900], &all_fits(127)[..4_000]), 13)?;
+    stock_refusal(judge, &stock_file(0x7F, &[], &all_fits(127)), 13)?;
+    // question 9 is put to lit pairs too
+    stock_refusal(judge, &stock_file(3, &[(0, 1)], &[(0, 3)]), 9)?;
+    stock_refusal(judge, &stock_file(3, &[(1, 1)], &[]), 11)?;
+    stock_refusal(judge, &stock_file(3, &[(0, 1)], &[(0, 1), (0, 1)]), 12)?;
+    // an entry counts by arc number
+    verdict(judge, &g4, &barrier_file(&[1, 2, 3, 3]), Verdict::Yes)?;
+    verdict(judge, &g5, &barrier_file(&[1, 2, 3, 3]), Verdict::No)?;
+    // class 82 and 40 added
+    verdict(judge, &g4, &barrier_file(&[1, 2, 0x82, 0x82]), Verdict::No)?;
+    verdict(judge, &g4, &barrier_file(&[1, 2, 0x83, 0x83]), Verdict::Refused(49))?;
+    verdict(judge, &g4, &barrier_file(&[1, 2, 3, 4]), Verdict::No)?;
+    // any numbering of the parts; a part need not be connected; a skipped class is none
+    let two_parts = graph(3, &[(0, 2), (3, 1), (2, 3), (2, 3), (0, 4), (5, 1), (4, 5), (4, 5)]).file();
+    verdict(judge, &two_parts, &barrier_file(&[1, 2, 3, 3, 4, 4]), Verdict::Yes)?;
+    verdict(judge, &two_parts, &barrier_file(&[1, 2, 4, 4, 3, 3]), Verdict::Yes)?;
+    verdict(judge, &two_parts, &barrier_file(&[1, 2, 3, 3, 5, 5]), Verdict::No)?;
+    verdict(judge, &two_parts, &barrier_file(&[1, 2, 3, 3, 3, 3]), Verdict::No)?;
+    let with_stranger = graph(3, &G4).file();
+    verdict(judge, &with_stranger, &barrier_file(&[1, 2, 3, 3, 0, 0]), Verdict::Yes)?;
+    verdict(judge, &with_stranger, &barrier_file(&[1, 2, 3, 3, 3, 3]), Verdict::Yes)?;
+    verdict(judge, &with_stranger, &barrier_file(&[1, 2, 3, 3, 4, 4]), Verdict::No)?;
+    // headers of the wrong length
+    verdict(judge, &g4, &file("2100", &[], 0x2F), Verdict::Refused(44))?;
+    verdict(judge, &g4, &file("3100", &pair_lines(0x32, &[(0, 1)]), 0x3F), Verdict::Refused(44))?;
+    verdict(judge, &g4, b"", Verdict::Refused(44))?;
+    verdict(judge, b"", b"", Verdict::Refused(4))
+}
+
+// ---- examples/
+
+const FOLDER: &str = concat!(env!("CARGO_MANIFEST_DIR"), "/../examples");
+
+fn example(name: &str) -> Result<Vec<u8>, String> {
+    fs::read(format!("{FOLDER}/{name}.hex")).map_err(|error| format!("examples/{name}.hex: {error}"))
+}
+
+fn example_is(name: &str, right: &[Vec<u8>]) -> Trial {
+    one_of(&format!("examples/{name}.hex"), &example(name)?, right)
+}
+
+pub fn examples_folder(judge: &mut Judge) -> Trial {
+    for (name, graph, answers) in graphs() {
+        example_is(&format!("{name}.graph"), &[graph.file()])?;
+        example_is(&format!("{name}.answer"), &answers)?;
+    }
+    for (name, stock, sheet, plans) in stocks() {
+        example_is(&format!("{name}.stock"), &[stock.file()])?;
+        example_is(&format!("{name}.sheet"), &[sheet])?;
+        example_is(&format!("{name}.plan"), &plans)?;
+    }
+    for (name, arcs, says) in [("G4", [0, 2, 1], "7A00\n"), ("G5", [0, 2, 5], "7A01\n")] {
+        example_is(&format!("{name}.certificate"), &[path_file(&arcs)])?;
+        example_is(&format!("{name}.verdict"), &[says.as_bytes().to_vec()])?;
+        judge.certificate(&example(&format!("{name}.graph"))?, &example(&format!("{name}.certificate"))?)?;
+    }
+    Ok(())
+}
+
+/// Every file of the examples, for damage.
+pub fn example_files() -> (Vec<Vec<u8>>, Vec<Vec<u8>>) {
+    let graph_files = graphs().into_iter().map(|(_, graph, _)| graph.file()).collect();
+    let stock_files = stocks().into_iter().map(|(_, stock, _, _)| stock.file()).collect();
+    (graph_files, stock_files)
+}

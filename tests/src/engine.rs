@@ -1,0 +1,109 @@
+//! The engine as the tests see it: document 01's calls.
+//!   Tally, Told, Verdict     the counts; a call's refusal number and answer size; what the check says
+//!   Engine                   the four calls
+//!   Library                  the proved engine in its static library (only where it is linked, see build.rs)
+
+#[derive(Clone, Copy, Debug, Default, PartialEq)]
+pub struct Tally {
+    pub paths: u32,
+    pub barriers: u32,
+    pub stocks: u32,
+    pub refusals: u32,
+}
+
+/// `number` is the refusal, 0 for an answer; `size` is the bytes of the answer, 0 for a refusal.
+#[derive(Clone, Copy, Debug, PartialEq)]
+pub struct Told {
+    pub number: u8,
+    pub size: usize,
+}
+
+#[derive(Clone, Copy, Debug, PartialEq)]
+pub enum Verdict {
+    Refused(u8),
+    Yes,
+    No,
+}
+
+pub trait Engine {
+    fn answer_graph(&self, file: &[u8], out: &mut [u8], tally: &mut Tally) -> Told;
+    fn plan(&self, file: &[u8], out: &mut [u8], tally: &mut Tally) -> Told;
+    fn sheet(&self, file: &[u8], out: &mut [u8], tally: &mut Tally) -> Told;
+    fn check(&self, graph: &[u8], certificate: &[u8]) -> Verdict;
+}
+
+/// The proved engine, where it is linked.
+#[cfg(lanes_library)]
+pub fn linked() -> Option<Box<dyn Engine>> {
+    Some(Box::new(library::Library))
+}
+
+#[cfg(not(lanes_library))]
+pub fn linked() -> Option<Box<dyn Engine>> {
+    None
+}
+
+/// The C functions, each slice a pointer and a length.
+/// A call returns its number in the lowest byte and its size above; its tally is four counts of four bytes, the lowest byte first.
+/// The check returns 1 for yes, 0 for no, and otherwise the refusal, which is never below 2.
+#[cfg(lanes_library)]
+mod library {
+    use super::{Engine, Tally, Told, Verdict};
+
+    extern "C" {
+        fn lanes_graph(file: *const u8, file_len: usize, out: *mut u8, out_len: usize, tally: *mut u8, tally_len: usize) -> u64;
+        fn lanes_plan(file: *const u8, file_len: usize, out: *mut u8, out_len: usize, tally: *mut u8, tally_len: usize) -> u64;
+        fn lanes_sheet(file: *const u8, file_len: usize, out: *mut u8, out_len: usize, tally: *mut u8, tally_len: usize) -> u64;
+        fn lanes_check(graph: *const u8, graph_len: usize, certificate: *const u8, certificate_len: usize) -> u8;
+    }
+
+    type Call = unsafe extern "C" fn(*const u8, usize, *mut u8, usize, *mut u8, usize) -> u64;
+
+    pub struct Library;
+
+    fn call(function: Call, file: &[u8], out: &mut [u8], tally: &mut Tally) -> Told {
+        let mut counts = bytes_of(tally);
+        // each pointer and length is those of one slice that is borrowed for the length of the call
+        let told = unsafe { function(file.as_ptr(), file.len(), out.as_mut_ptr(), out.len(), counts.as_mut_ptr(), counts.len()) };
+        *tally = tally_of(&counts);
+        Told { number: told as u8, size: (told >> 8) as usize }
+    }
+
+    fn bytes_of(tally: &Tally) -> [u8; 16] {
+        let counts = [tally.paths, tally.barriers, tally.stocks, tally.refusals];
+        let mut bytes = [0; 16];
+        for (place, count) in counts.iter().enumerate() {
+            bytes[4 * place..4 * place + 4].copy_from_slice(&count.to_le_bytes());
+        }
+        bytes
+    }
+
+    fn tally_of(bytes: &[u8; 16]) -> Tally {
+        let count = |place: usize| u32::from_le_bytes(bytes[4 * place..4 * place + 4].try_into().unwrap());
+        Tally { paths: count(0), barriers: count(1), stocks: count(2), refusals: count(3) }
+    }
+
+    impl Engine for Library {
+        fn answer_graph(&self, file: &[u8], out: &mut [u8], tally: &mut Tally) -> Told {
+            call(lanes_graph, file, out, tally)
+        }
+
+        fn plan(&self, file: &[u8], out: &mut [u8], tally: &mut Tally) -> Told {
+            call(lanes_plan, file, out, tally)
+        }
+
+        fn sheet(&self, file: &[u8], out: &mut [u8], tally: &mut Tally) -> Told {
+            call(lanes_sheet, file, out, tally)
+        }
+
+        fn check(&self, graph: &[u8], certificate: &[u8]) -> Verdict {
+            // as above
+            let said = unsafe { lanes_check(graph.as_ptr(), graph.len(), certificate.as_ptr(), certificate.len()) };
+            match said {
+                0 => Verdict::No,
+                1 => Verdict::Yes,
+                refusal => Verdict::Refused(refusal),
+            }
+        }
+    }
+}

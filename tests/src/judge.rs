@@ -1,0 +1,243 @@
+//! Calls to an engine, each judged whole: refusal number, size, every byte of the buffer and around it, and the tally.
+//!   Judge                 an engine, a source of numbers, and counts of what was tried
+//!   graph, stock          a file handed to the calls for its kind, and judged by what document 01 says of it
+//!   all_calls             any bytes handed to every call
+//!   check, certificate    two files handed to the check; the second counted as a file tried
+//!   in_a_row              calls on one tally
+//!   Seen                  counts of calls by what they came to
+//!   Trial                 done, or what went wrong and on which file
+
+use crate::engine::{Engine, Tally, Told, Verdict};
+use crate::graph_trial;
+use crate::random::Random;
+use crate::truth::{graph_owed, graph_truth, opening, plan_owed, sheet_owed, stock_truth, Count, Owed};
+use std::collections::BTreeMap;
+use std::fmt;
+
+pub type Trial = Result<(), String>;
+
+#[derive(Clone, Copy, Debug, PartialEq)]
+pub enum Call {
+    Graph,
+    Plan,
+    Sheet,
+}
+
+/// Calls by what they came to.
+#[derive(Default)]
+pub struct Seen {
+    pub files: usize,
+    pub calls: usize,
+    pub paths: usize,
+    pub barriers: usize,
+    pub stocks: usize,
+    pub yes: usize,
+    pub no: usize,
+    pub refusals: BTreeMap<u8, usize>,
+}
+
+impl Seen {
+    pub fn add(&mut self, other: &Seen) {
+        let counts = |seen: &Seen| [seen.files, seen.calls, seen.paths, seen.barriers, seen.stocks, seen.yes, seen.no];
+        let sums = [
+            &mut self.files,
+            &mut self.calls,
+            &mut self.paths,
+            &mut self.barriers,
+            &mut self.stocks,
+            &mut self.yes,
+            &mut self.no,
+        ];
+        sums.into_iter().zip(counts(other)).for_each(|(sum, count)| *sum += count);
+        other.refusals.iter().for_each(|(number, count)| *self.refusals.entry(*number).or_default() += count);
+    }
+}
+
+impl fmt::Display for Seen {
+    fn fmt(&self, out: &mut fmt::Formatter) -> fmt::Result {
+        let Seen { files, calls, paths, barriers, stocks, yes, no, .. } = self;
+        writeln!(
+            out,
+            "{files} files, {calls} calls: {paths} paths, {barriers} barriers, {stocks} stock answers, {yes} yes, {no} no"
+        )?;
+        write!(out, "refusals:")?;
+        self.refusals.iter().try_for_each(|(number, count)| write!(out, " {number}: {count}"))
+    }
+}
+
+pub struct Judge<'a> {
+    engine: &'a dyn Engine,
+    pub random: Random,
+    pub seen: Seen,
+}
+
+pub const LEAST_ROOM: usize = 2_048;
+
+/// Bytes before and after the lent buffer, which no call may touch.
+const MARGIN: usize = 64;
+
+impl<'a> Judge<'a> {
+    pub fn new(engine: &'a dyn Engine, seed: u64) -> Judge<'a> {
+        Judge { engine, random: Random::new(seed), seen: Seen::default() }
+    }
+
+    pub fn graph(&mut self, file: &[u8]) -> Trial {
+        self.seen.files += 1;
+        let truth = graph_truth(file);
+        let owed = graph_owed(&truth);
+        let (room, short) = self.rooms();
+        let answer = self.lend(Call::Graph, file, room, &owed)?;
+        if let Some(room) = short {
+            self.lend(Call::Graph, file, room, &owed)?;
+        }
+        if owed.number == 0 {
+            self.check(file, &answer)?;
+        }
+        Ok(())
+    }
+
+    pub fn stock(&mut self, file: &[u8]) -> Trial {
+        self.seen.files += 1;
+        let truth = stock_truth(file);
+        let (room, short) = self.rooms();
+        self.lend(Call::Plan, file, room, &plan_owed(&truth))?;
+        self.lend(Call::Sheet, file, room, &sheet_owed(&truth))?;
+        if let Some(room) = short {
+            self.lend(Call::Plan, file, room, &plan_owed(&truth))?;
+            self.lend(Call::Sheet, file, room, &sheet_owed(&truth))?;
+        }
+        Ok(())
+    }
+
+    /// As a graph, as a stock, and as a certificate of a given graph.
+    pub fn all_calls(&mut self, graph: &[u8], file: &[u8]) -> Trial {
+        self.graph(file)?;
+        self.stock(file)?;
+        self.seen.files -= 1;
+        self.check(graph, file)
+    }
+
+    pub fn certificate(&mut self, graph: &[u8], certificate: &[u8]) -> Trial {
+        self.seen.files += 1;
+        self.check(graph, certificate)
+    }
+
+    pub fn check(&mut self, graph: &[u8], certificate: &[u8]) -> Trial {
+        let owed = graph_trial::check(graph, certificate);
+        let said = self.engine.check(graph, certificate);
+        self.seen.calls += 1;
+        match owed {
+            Verdict::Yes => self.seen.yes += 1,
+            Verdict::No => self.seen.no += 1,
+            Verdict::Refused(number) => *self.seen.refusals.entry(number).or_default() += 1,
+        }
+        if said == owed {
+            return Ok(());
+        }
+        let files = format!("graph:\n{}certificate:\n{}", shown(graph), shown(certificate));
+        Err(format!("check says {said:?}, owed is {owed:?}\n{files}"))
+    }
+
+    /// Calls in a row on one tally, which each but the check counts up.
+    pub fn in_a_row(&mut self, start: Tally, calls: &[(Call, &[u8], Count)]) -> Trial {
+        let mut tally = start;
+        let mut owed = start;
+        for (call, file, count) in calls {
+            self.call(*call, file, &mut [0; LEAST_ROOM], &mut tally);
+            self.seen.calls += 1;
+            owed = raised(owed, *count);
+            if tally != owed {
+                return Err(format!("tally {tally:?} where {owed:?} is owed, after {call:?} of\n{}", shown(file)));
+            }
+        }
+        Ok(())
+    }
+
+    /// One call with a buffer of a size. Returns the answer, empty for a refusal.
+    pub fn lend(&mut self, call: Call, file: &[u8], room: usize, owed: &Owed) -> Result<Vec<u8>, String> {
+        let (number, count) = if room < LEAST_ROOM { (1, Count::Refusals) } else { (owed.number, owed.count) };
+        let before: Vec<u8> = (0..room + 2 * MARGIN).map(|_| self.random.byte()).collect();
+        let tally_before = self.some_tally();
+        let mut after = before.clone();
+        let mut tally = tally_before;
+        let told = self.call(call, file, &mut after[MARGIN..MARGIN + room], &mut tally);
+        self.count(count, number);
+        let fault = |what: String| Err(format!("{call:?} with a buffer of {room}: {what}\n{}", shown(file)));
+        if told.number != number {
+            return fault(format!("refusal {} where {number} is owed (0: an answer)", told.number));
+        }
+        if told.size > room || (number != 0 && told.size != 0) {
+            return fault(format!("size {} with number {number}", told.size));
+        }
+        let answer = after[MARGIN..MARGIN + told.size].to_vec();
+        if before[..MARGIN] != after[..MARGIN] || before[MARGIN + told.size..] != after[MARGIN + told.size..] {
+            return fault("a byte outside the answer changed".to_string());
+        }
+        if tally != raised(tally_before, count) {
+            return fault(format!("tally {tally:?} after {tally_before:?}, and {count:?} is owed"));
+        }
+        if number == 0 && !(owed.is_right)(&answer) {
+            return fault(format!("wrong answer ({}):\n{}to:", opening(&answer), shown(&answer)));
+        }
+        Ok(answer)
+    }
+
+    fn call(&self, call: Call, file: &[u8], out: &mut [u8], tally: &mut Tally) -> Told {
+        match call {
+            Call::Graph => self.engine.answer_graph(file, out, tally),
+            Call::Plan => self.engine.plan(file, out, tally),
+            Call::Sheet => self.engine.sheet(file, out, tally),
+        }
+    }
+
+    fn count(&mut self, count: Count, number: u8) {
+        self.seen.calls += 1;
+        match count {
+            Count::Paths => self.seen.paths += 1,
+            Count::Barriers => self.seen.barriers += 1,
+            Count::Stocks => self.seen.stocks += 1,
+            Count::Refusals => *self.seen.refusals.entry(number).or_default() += 1,
+        }
+    }
+
+    /// A buffer that is large enough, and at times one that is not.
+    fn rooms(&mut self) -> (usize, Option<usize>) {
+        let room = if self.random.chance(80) { LEAST_ROOM } else { LEAST_ROOM + self.random.below(3_000) };
+        let short = if self.random.chance(50) { LEAST_ROOM - 1 } else { self.random.below(LEAST_ROOM) };
+        (room, self.random.chance(5).then_some(short))
+    }
+
+    /// Counts of any size, at times at their largest value or one below.
+    fn some_tally(&mut self) -> Tally {
+        let mut count = || match self.random.below(6) {
+            0 => u32::MAX,
+            1 => u32::MAX - 1,
+            2 => 0,
+            _ => self.random.next() as u32,
+        };
+        Tally { paths: count(), barriers: count(), stocks: count(), refusals: count() }
+    }
+}
+
+/// One count up, unless it is at 4,294,967,295.
+pub fn raised(tally: Tally, count: Count) -> Tally {
+    let mut raised = tally;
+    let place = match count {
+        Count::Paths => &mut raised.paths,
+        Count::Barriers => &mut raised.barriers,
+        Count::Stocks => &mut raised.stocks,
+        Count::Refusals => &mut raised.refusals,
+    };
+    if *place != 4_294_967_295 {
+        *place += 1;
+    }
+    raised
+}
+
+/// The beginning of a file, for messages.
+pub fn shown(file: &[u8]) -> String {
+    const MOST: usize = 1_200;
+    let start = String::from_utf8_lossy(&file[..file.len().min(MOST)]).into_owned();
+    let rest = if file.len() > MOST { format!("\n.. {} bytes in all\n", file.len()) } else { String::new() };
+    format!("{start}{rest}")
+}

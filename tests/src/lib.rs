@@ -1,0 +1,36 @@
+//! The engine tried from outside. The trial is written from document 01 alone and shares nothing with the engine.
+//!   random          a seeded source of numbers
+//!   frames          files of frames: written and read
+//!   graph_trial     graphs, regular paths, barriers and certificates, by trial of everything
+//!   stock_trial     stocks, pairings, marks and plans, by trial of everything
+//!   blossom         maximum matchings of any size
+//!   arc_matching    regular paths of any size, by matchings
+//!   truth           what document 01 says of a file
+//!   engine          the calls, and the proved engine where it is linked
+//!   reference       an engine made of the trial's parts
+//!   wrong           engines with one part wrong
+//!   judge           a call judged whole: result, buffer, tally
+//!   generate        random graphs and stocks
+//!   faults          files that fail chosen questions
+//!   cases           document 01's examples, edges and traps
+//!   trials          what is tried with random files
+//!   large           the largest files
+//!   groups          all that is tried, by name
+
+pub mod arc_matching;
+pub mod blossom;
+pub mod cases;
+pub mod engine;
+pub mod faults;
+pub mod frames;
+pub mod generate;
+pub mod graph_trial;
+pub mod groups;
+pub mod judge;
+pub mod large;
+pub mod random;
+pub mod reference;
+pub mod stock_trial;
+pub mod trials;
+pub mod truth;
+pub mod wrong;

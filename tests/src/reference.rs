@@ -1,0 +1,136 @@
+//! An engine put together from the trial's parts and the matchings, to try the tests themselves: they must pass on it,
+//! and must fail on each engine that has one part replaced by a wrong one (wrong.rs).
+//!   GraphAnswer       a path or a barrier's classes
+//!   Parts             the engine as a record of its parts
+//!   Parts::right      each part as document 01 says
+
+use crate::arc_matching;
+use crate::blossom;
+use crate::engine::{Engine, Tally, Told, Verdict};
+use crate::frames::{barrier_file, path_file, plan_file, sheet_file, Pair};
+use crate::graph_trial::{self, canonical, Certificate, Graph};
+use crate::stock_trial::{self, Standing, Stock};
+
+pub enum GraphAnswer {
+    Path(Vec<usize>),
+    Barrier(Vec<usize>),
+}
+
+pub struct Parts {
+    pub least_room: usize,
+    pub read_graph: Box<dyn Fn(&[u8]) -> Result<Graph, u8>>,
+    pub read_stock: Box<dyn Fn(&[u8]) -> Result<Stock, u8>>,
+    pub read_certificate: Box<dyn Fn(&Graph, &[u8]) -> Result<Certificate, u8>>,
+    pub answer: fn(&Graph) -> GraphAnswer,
+    pub plan: fn(&Stock) -> Vec<Pair>,
+    pub standing: fn(&Stock) -> Standing,
+    pub holds: fn(&Graph, &Certificate) -> bool,
+    pub added_for_certificates: u8,
+    pub raise: fn(u32) -> u32,
+    pub write: fn(&[u8], &mut [u8]) -> Told,
+    pub refuse: fn(u8, &mut [u8]) -> Told,
+}
+
+impl Parts {
+    pub fn right() -> Parts {
+        Parts {
+            least_room: 2_048,
+            read_graph: Box::new(graph_trial::read),
+            read_stock: Box::new(stock_trial::read),
+            read_certificate: Box::new(graph_trial::read_certificate),
+            answer,
+            plan,
+            standing,
+            holds: graph_trial::certificate_holds,
+            added_for_certificates: 40,
+            raise: |count| count.saturating_add(1),
+            write,
+            refuse: |number, _| Told { number, size: 0 },
+        }
+    }
+
+    fn refusal(&self, number: u8, out: &mut [u8], tally: &mut Tally) -> Told {
+        tally.refusals = (self.raise)(tally.refusals);
+        (self.refuse)(number, out)
+    }
+
+    fn answer_stock(&self, file: &[u8], out: &mut [u8], tally: &mut Tally, text: impl Fn(&Stock) -> Vec<u8>) -> Told {
+        if out.len() < self.least_room {
+            return self.refusal(1, out, tally);
+        }
+        match (self.read_stock)(file) {
+            Err(number) => self.refusal(number, out, tally),
+            Ok(stock) => {
+                tally.stocks = (self.raise)(tally.stocks);
+                (self.write)(&text(&stock), out)
+            }
+        }
+    }
+}
+
+pub fn answer(graph: &Graph) -> GraphAnswer {
+    match arc_matching::wanted_path(graph) {
+        Some(arcs) => GraphAnswer::Path(arcs),
+        None => GraphAnswer::Barrier(canonical(graph, &arc_matching::reachable(graph))),
+    }
+}
+
+pub fn plan(stock: &Stock) -> Vec<Pair> {
+    let mut partner = blossom::partners(stock.cameras, &stock.lit);
+    blossom::enlarge(&blossom::neighbours(stock.cameras, &stock.fits), &mut partner);
+    blossom::pairs(&partner)
+}
+
+pub fn standing(stock: &Stock) -> Standing {
+    blossom::standing(stock.cameras, &stock.fits)
+}
+
+pub fn write(answer: &[u8], out: &mut [u8]) -> Told {
+    out[..answer.len()].copy_from_slice(answer);
+    Told { number: 0, size: answer.len() }
+}
+
+impl Engine for Parts {
+    fn answer_graph(&self, file: &[u8], out: &mut [u8], tally: &mut Tally) -> Told {
+        if out.len() < self.least_room {
+            return self.refusal(1, out, tally);
+        }
+        let graph = match (self.read_graph)(file) {
+            Err(number) => return self.refusal(number, out, tally),
+            Ok(graph) => graph,
+        };
+        match (self.answer)(&graph) {
+            GraphAnswer::Path(arcs) => {
+                tally.paths = (self.raise)(tally.paths);
+                (self.write)(&path_file(&arcs), out)
+            }
+            GraphAnswer::Barrier(classes) => {
+                tally.barriers = (self.raise)(tally.barriers);
+                (self.write)(&barrier_file(&classes), out)
+            }
+        }
+    }
+
+    fn plan(&self, file: &[u8], out: &mut [u8], tally: &mut Tally) -> Told {
+        self.answer_stock(file, out, tally, |stock| plan_file(&(self.plan)(stock)))
+    }
+
+    fn sheet(&self, file: &[u8], out: &mut [u8], tally: &mut Tally) -> Told {
+        self.answer_stock(file, out, tally, |stock| {
+            let standing = (self.standing)(stock);
+            sheet_file(standing.greatest, &standing.marks)
+        })
+    }
+
+    fn check(&self, graph: &[u8], certificate: &[u8]) -> Verdict {
+        let graph = match (self.read_graph)(graph) {
+            Err(number) => return Verdict::Refused(number),
+            Ok(graph) => graph,
+        };
+        match (self.read_certificate)(&graph, certificate) {
+            Err(number) => Verdict::Refused(number + self.added_for_certificates),
+            Ok(certificate) if (self.holds)(&graph, &certificate) => Verdict::Yes,
+            Ok(_) => Verdict::No,
+        }
+    }
+}

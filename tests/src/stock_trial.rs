@@ -1,0 +1,143 @@
+//! Stocks by trial (document 01, "Stocks", "Questions put to a call").
+//!   Stock                 number of cameras, fits, lit pairs
+//!   ask, read             one question put to a stock file; all in order
+//!   each_pairing          every pairing of the fits, once
+//!   Standing              greatest number of pairs and every camera's mark
+//!   standing              it, by all pairings
+//!   marks_by              marks, by which cameras some largest pairing leaves over
+//!   is_plan               pairs are a plan of the stock
+
+use crate::frames::{first_no, number, stock_file, Pair, Text, STOCK};
+
+#[derive(Clone, Debug, PartialEq)]
+pub struct Stock {
+    pub cameras: usize,
+    pub fits: Vec<Pair>,
+    pub lit: Vec<Pair>,
+}
+
+impl Stock {
+    pub fn file(&self) -> Vec<u8> {
+        stock_file(self.cameras, &self.fits, &self.lit)
+    }
+}
+
+// ---- stock files
+
+pub const STOCK_QUESTIONS: [u8; 12] = [2, 3, 4, 5, 6, 7, 8, 9, 11, 12, 13, 14];
+
+fn stock_in(text: &Text) -> Stock {
+    Stock { cameras: number(text.header(), 2, 2), fits: text.pairs(0x12), lit: text.pairs(0x13) }
+}
+
+/// The smaller camera first in each pair, and the pairs strictly rising.
+pub fn rises(pairs: &[Pair]) -> bool {
+    pairs.iter().all(|(first, second)| first < second) && pairs.windows(2).all(|two| two[0] < two[1])
+}
+
+fn no_camera_twice(pairs: &[Pair]) -> bool {
+    let mut cameras: Vec<usize> = pairs.iter().flat_map(|(first, second)| [*first, *second]).collect();
+    let all = cameras.len();
+    cameras.sort_unstable();
+    cameras.dedup();
+    cameras.len() == all
+}
+
+fn includes(pairs: &[Pair], camera: usize) -> bool {
+    pairs.iter().any(|(first, second)| *first == camera || *second == camera)
+}
+
+pub fn ask(text: &Text, question: u8) -> bool {
+    let stock = stock_in(text);
+    let named = |(first, second): &Pair| *first < stock.cameras && *second < stock.cameras;
+    let is_fit = |(first, second): &Pair| stock.fits.contains(&(*first, *second)) || stock.fits.contains(&(*second, *first));
+    match question {
+        5 => stock.cameras <= 0x7F,
+        8 => stock.fits.len() <= 3_900,
+        9 => stock.fits.iter().all(named) && stock.lit.iter().all(named),
+        11 => rises(&stock.fits),
+        12 => rises(&stock.lit),
+        13 => stock.lit.iter().all(is_fit),
+        14 => no_camera_twice(&stock.lit),
+        _ => text.answers(&STOCK, question),
+    }
+}
+
+/// The stock of a file, or the number of the first question answered no.
+pub fn read(file: &[u8]) -> Result<Stock, u8> {
+    read_in_order(file, &STOCK_QUESTIONS)
+}
+
+pub fn read_in_order(file: &[u8], order: &[u8]) -> Result<Stock, u8> {
+    let text = Text::of(file);
+    match first_no(order, |question| ask(&text, question)) {
+        0 => Ok(stock_in(&text)),
+        refusal => Err(refusal),
+    }
+}
+
+// ---- pairings
+
+/// Hands every pairing of the fits to `visit`, each once. For small stocks.
+pub fn each_pairing(cameras: usize, fits: &[Pair], visit: &mut dyn FnMut(&[Pair])) {
+    extend_pairing(cameras, fits, 0, &mut Vec::new(), visit);
+}
+
+/// The camera is left over, or paired with a later one that is free: both ways, then the cameras after it.
+fn extend_pairing(cameras: usize, fits: &[Pair], camera: usize, pairs: &mut Vec<Pair>, visit: &mut dyn FnMut(&[Pair])) {
+    if camera == cameras {
+        return visit(pairs);
+    }
+    extend_pairing(cameras, fits, camera + 1, pairs, visit);
+    if includes(pairs, camera) {
+        return;
+    }
+    for fit in fits.iter().filter(|fit| fit.0 == camera) {
+        if !includes(pairs, fit.1) {
+            pairs.push(*fit);
+            extend_pairing(cameras, fits, camera + 1, pairs, visit);
+            pairs.pop();
+        }
+    }
+}
+
+#[derive(Clone, Debug, PartialEq)]
+pub struct Standing {
+    pub greatest: usize,
+    pub marks: Vec<usize>,
+}
+
+/// By all pairings of the fits.
+pub fn standing(cameras: usize, fits: &[Pair]) -> Standing {
+    let mut greatest = 0;
+    each_pairing(cameras, fits, &mut |pairs| greatest = greatest.max(pairs.len()));
+    let mut left_over = vec![false; cameras];
+    each_pairing(cameras, fits, &mut |pairs| {
+        if pairs.len() == greatest {
+            for camera in (0..cameras).filter(|camera| !includes(pairs, *camera)) {
+                left_over[camera] = true;
+            }
+        }
+    });
+    Standing { greatest, marks: marks_by(&left_over, fits) }
+}
+
+pub fn marks_by(left_over: &[bool], fits: &[Pair]) -> Vec<usize> {
+    let fits_left_over = |camera: usize| {
+        fits.iter().any(|(first, second)| (*first == camera && left_over[*second]) || (*second == camera && left_over[*first]))
+    };
+    let mark = |camera: usize| match (left_over[camera], fits_left_over(camera)) {
+        (true, _) => 0,
+        (false, true) => 1,
+        (false, false) => 2,
+    };
+    (0..left_over.len()).map(mark).collect()
+}
+
+/// A largest pairing that leaves no lit camera unlit, is the lit pairs if those are largest, and stands in order.
+pub fn is_plan(stock: &Stock, greatest: usize, pairs: &[Pair]) -> bool {
+    let is_pairing = pairs.iter().all(|pair| stock.fits.contains(pair)) && no_camera_twice(pairs);
+    let keeps_lit = (0..stock.cameras).all(|camera| !includes(&stock.lit, camera) || includes(pairs, camera));
+    let lit_if_largest = stock.lit.len() != greatest || pairs == stock.lit;
+    is_pairing && pairs.len() == greatest && keeps_lit && lit_if_largest && rises(pairs)
+}

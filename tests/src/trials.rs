@@ -1,0 +1,294 @@
+//! What is tried with random files.
+//!   pairings_agree, paths_agree, barriers_exclude_paths    the trial against itself, without an engine
+//!   small_graphs .. middling_stocks                        random graphs and stocks
+//!   certificates                                           right, wrong and random certificates
+//!   damaged_certificates, damaged_files                    one byte changed, left out or put in, at every place
+//!   truncated_files, random_bytes
+//!   single_faults, pairs_of_faults                         every question as the first failing one, alone and with each later one
+//!   faults_in_both_files                                   the check: graph first, then certificate
+//! Where there is a choice, the number of files to try is given.
+
+use crate::arc_matching;
+use crate::blossom;
+use crate::cases::{example_files, graphs};
+use crate::faults::{failing, graph_for_certificates, questions, Kind, KINDS};
+use crate::frames::{barrier_file, path_file};
+use crate::generate::{doubled_table, middling_graph, middling_stock, shuffled_graph, small_graph, small_stock};
+use crate::graph_trial::{self, canonical, is_barrier, is_wanted, mate, Graph};
+use crate::judge::{shown, Judge, Trial};
+use crate::random::Random;
+use crate::stock_trial;
+
+// ---- the trial against itself
+
+pub fn pairings_agree(judge: &mut Judge, files: usize) -> Trial {
+    for _ in 0..files {
+        let stock = small_stock(&mut judge.random);
+        let tried = stock_trial::standing(stock.cameras, &stock.fits);
+        if blossom::standing(stock.cameras, &stock.fits) != tried {
+            return Err(format!("all pairings and the blossom algorithm differ\n{}", shown(&stock.file())));
+        }
+    }
+    Ok(())
+}
+
+pub fn paths_agree(judge: &mut Judge, files: usize) -> Trial {
+    for _ in 0..files {
+        let graph = small_graph(&mut judge.random);
+        let tried = graph_trial::reachable(&graph);
+        let path = arc_matching::wanted_path(&graph);
+        let path_agrees = path.is_some() == tried[mate(graph.source)] && path.iter().all(|arcs| is_wanted(&graph, arcs));
+        if arc_matching::reachable(&graph) != tried || !path_agrees {
+            return Err(format!("all regular paths and matchings of arcs differ\n{}", shown(&graph.file())));
+        }
+    }
+    Ok(())
+}
+
+pub fn barriers_exclude_paths(judge: &mut Judge, files: usize) -> Trial {
+    for _ in 0..files {
+        let graph = small_graph(&mut judge.random);
+        let reached = graph_trial::reachable(&graph);
+        if is_barrier(&graph, &canonical(&graph, &reached)) == reached[mate(graph.source)] {
+            return Err(format!("a path and a barrier, or neither\n{}", shown(&graph.file())));
+        }
+    }
+    Ok(())
+}
+
+// ---- random graphs and stocks
+
+pub fn small_graphs(judge: &mut Judge, files: usize) -> Trial {
+    (0..files).try_for_each(|_| {
+        let graph = small_graph(&mut judge.random);
+        judge.graph(&graph.file())
+    })
+}
+
+pub fn middling_graphs(judge: &mut Judge, files: usize) -> Trial {
+    (0..files).try_for_each(|_| {
+        let graph = middling_graph(&mut judge.random);
+        judge.graph(&graph.file())
+    })
+}
+
+/// Doubled tables of small and of larger stocks, under other numbers.
+pub fn doubled_tables(judge: &mut Judge, files: usize) -> Trial {
+    (0..files).try_for_each(|number| {
+        let random = &mut judge.random;
+        let stock = if number % 4 == 0 { middling_stock(random) } else { small_stock(random) };
+        let graph = shuffled_graph(random, &doubled_table(&stock));
+        judge.graph(&graph.file())
+    })
+}
+
+pub fn small_stocks(judge: &mut Judge, files: usize) -> Trial {
+    (0..files).try_for_each(|_| {
+        let stock = small_stock(&mut judge.random);
+        judge.stock(&stock.file())
+    })
+}
+
+pub fn middling_stocks(judge: &mut Judge, files: usize) -> Trial {
+    (0..files).try_for_each(|_| {
+        let stock = middling_stock(&mut judge.random);
+        judge.stock(&stock.file())
+    })
+}
+
+// ---- certificates
+
+/// A run of arcs that each start where the one before ended, from the source; regular or not.
+fn random_walk(random: &mut Random, graph: &Graph) -> Vec<usize> {
+    let mut arcs = Vec::new();
+    let mut at = graph.source;
+    for _ in 0..random.below(8) {
+        let leaving: Vec<usize> = (0..graph.arcs.len()).filter(|arc| graph.arcs[*arc].0 == at).collect();
+        if leaving.is_empty() || (at == mate(graph.source) && random.chance(70)) {
+            break;
+        }
+        let arc = *random.choose(&leaving);
+        arcs.push(arc);
+        at = graph.arcs[arc].1;
+    }
+    arcs
+}
+
+/// The canonical classes, right or with one mate pair's classes changed.
+fn random_classes(random: &mut Random, graph: &Graph) -> Vec<usize> {
+    let mut classes = canonical(graph, &graph_trial::reachable(graph));
+    if random.chance(60) {
+        let node = random.below(graph.nodes());
+        let class = random.below(5);
+        classes[node] = class;
+        let other = match class {
+            1 => 2,
+            2 => 1,
+            same => same,
+        };
+        classes[mate(node)] = if random.chance(90) { other } else { class };
+    }
+    classes
+}
+
+/// The parts of a barrier numbered the other way round.
+fn renumbered(classes: &[usize]) -> Vec<usize> {
+    let highest = classes.iter().copied().max().unwrap_or(0);
+    classes.iter().map(|class| if *class >= 3 { highest + 3 - class } else { *class }).collect()
+}
+
+pub fn certificates(judge: &mut Judge, files: usize) -> Trial {
+    (0..files).try_for_each(|number| {
+        let random = &mut judge.random;
+        let graph = small_graph(random);
+        let certificate = match number % 4 {
+            0 => path_file(&random_walk(random, &graph)),
+            1 => barrier_file(&renumbered(&random_classes(random, &graph))),
+            2 => match arc_matching::wanted_path(&graph) {
+                Some(arcs) => path_file(&arcs),
+                None => barrier_file(&canonical(&graph, &arc_matching::reachable(&graph))),
+            },
+            _ => barrier_file(&random_classes(random, &graph)),
+        };
+        judge.certificate(&graph.file(), &certificate)
+    })
+}
+
+// ---- damage
+
+/// A file with the byte at a place changed, left out, or another put in before it.
+fn damaged(random: &mut Random, file: &[u8], place: usize) -> Vec<u8> {
+    let mut bytes = file.to_vec();
+    match random.below(8) {
+        0 => drop(bytes.remove(place)),
+        1 => bytes.insert(place, *random.choose(b"0F\n")),
+        2 => bytes[place] = b'\n',
+        3 => bytes[place] = random.byte(),
+        4 => bytes[place] ^= 1 << random.below(8),
+        _ => bytes[place] = *random.choose(b"0123456789ABCDEF"),
+    }
+    bytes
+}
+
+pub fn damaged_certificates(judge: &mut Judge, files: usize) -> Trial {
+    let examples = graphs();
+    let mut tried = 0;
+    while tried < files {
+        for (_, graph, answers) in &examples {
+            let certificate = judge.random.choose(answers).clone();
+            for place in 0..certificate.len() {
+                let bytes = damaged(&mut judge.random, &certificate, place);
+                judge.certificate(&graph.file(), &bytes)?;
+                tried += 1;
+            }
+        }
+    }
+    Ok(())
+}
+
+pub fn damaged_files(judge: &mut Judge, files: usize) -> Trial {
+    let (graph_files, stock_files) = example_files();
+    let mut tried = 0;
+    while tried < files {
+        for file in &graph_files {
+            for place in 0..file.len() {
+                let bytes = damaged(&mut judge.random, file, place);
+                judge.graph(&bytes)?;
+                tried += 1;
+            }
+        }
+        for file in &stock_files {
+            for place in 0..file.len() {
+                let bytes = damaged(&mut judge.random, file, place);
+                judge.stock(&bytes)?;
+                tried += 1;
+            }
+        }
+    }
+    Ok(())
+}
+
+/// Every beginning of every example file and answer.
+pub fn truncated_files(judge: &mut Judge) -> Trial {
+    let (graph_files, stock_files) = example_files();
+    for file in &graph_files {
+        (0..=file.len()).try_for_each(|length| judge.graph(&file[..length]))?;
+    }
+    for file in &stock_files {
+        (0..=file.len()).try_for_each(|length| judge.stock(&file[..length]))?;
+    }
+    for (_, graph, answers) in graphs() {
+        let file = graph.file();
+        (0..=answers[0].len()).try_for_each(|length| judge.certificate(&file, &answers[0][..length]))?;
+        (0..file.len()).try_for_each(|length| judge.certificate(&file[..length], &answers[0]))?;
+    }
+    Ok(())
+}
+
+pub fn random_bytes(judge: &mut Judge, files: usize) -> Trial {
+    let graph = graph_for_certificates().file();
+    (0..files).try_for_each(|number| {
+        let random = &mut judge.random;
+        let length = if random.chance(90) { random.below(60) } else { random.below(3_000) };
+        let kinds: [&[u8]; 8] = [b"010201\n", b"1104\n", b"21\n", b"31\n", b"020002\n", b"120001\n", b"0F0000\n", b"1F0001\n"];
+        let mut bytes = if number % 3 == 2 { random.choose(&kinds[..4]).to_vec() } else { Vec::new() };
+        while bytes.len() < length {
+            match number % 3 {
+                0 => bytes.push(random.byte()),
+                1 => bytes.push(*random.choose(b"0123456789ABCDEF\n")),
+                _ => bytes.extend_from_slice(kinds[random.below(kinds.len())]),
+            }
+        }
+        judge.all_calls(&graph, &bytes)
+    })
+}
+
+// ---- faults
+
+fn judge_faulty(judge: &mut Judge, kind: Kind, faults: &[u8]) -> Trial {
+    let file = failing(&mut judge.random, kind, faults)?;
+    match kind {
+        Kind::Graph => {
+            judge.graph(&file)?;
+            judge.check(&file, b"")
+        }
+        Kind::Stock => judge.stock(&file),
+        Kind::Path | Kind::Barrier => judge.certificate(&graph_for_certificates().file(), &file),
+    }
+}
+
+pub fn single_faults(judge: &mut Judge, files: usize) -> Trial {
+    let all: usize = KINDS.iter().map(|kind| questions(*kind).len()).sum();
+    for _ in 0..files.div_ceil(all) {
+        for kind in KINDS {
+            questions(kind).iter().try_for_each(|fault| judge_faulty(judge, kind, &[*fault]))?;
+        }
+    }
+    Ok(())
+}
+
+pub fn pairs_of_faults(judge: &mut Judge, files: usize) -> Trial {
+    let pairs_of = |number: usize| number * (number - 1) / 2;
+    let all: usize = KINDS.iter().map(|kind| pairs_of(questions(*kind).len())).sum();
+    for _ in 0..files.div_ceil(all) {
+        for kind in KINDS {
+            for (place, first) in questions(kind).iter().enumerate() {
+                let later = &questions(kind)[place + 1..];
+                later.iter().try_for_each(|second| judge_faulty(judge, kind, &[*first, *second]))?;
+            }
+        }
+    }
+    Ok(())
+}
+
+pub fn faults_in_both_files(judge: &mut Judge) -> Trial {
+    for first in questions(Kind::Graph) {
+        for second in questions(Kind::Path) {
+            let graph = failing(&mut judge.random, Kind::Graph, &[*first])?;
+            let kind = if judge.random.chance(50) { Kind::Path } else { Kind::Barrier };
+            let certificate = failing(&mut judge.random, kind, &[*second])?;
+            judge.certificate(&graph, &certificate)?;
+        }
+    }
+    Ok(())
+}

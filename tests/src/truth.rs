@@ -1,0 +1,123 @@
+//! What document 01 says of a file that is handed in: by trial of everything where it is small enough, by matchings otherwise.
+//!   GraphTruth, graph_truth    refusal, or the graph and whether it has a path, or else its canonical classes
+//!   StockTruth, stock_truth    refusal, or the stock and its standing
+//!   Owed                       what a call owes: refusal number, the count that rises, and whether an answer is right
+//!   graph_owed, plan_owed, sheet_owed
+
+use crate::arc_matching;
+use crate::blossom;
+use crate::frames::{barrier_file, path_file, plan_file, sheet_file, Text, BARRIER, PATH, PLAN};
+use crate::graph_trial::{self, canonical, is_wanted, mate, Certificate, Graph};
+use crate::stock_trial::{self, is_plan, Standing, Stock};
+
+/// Up to these sizes everything is tried.
+const SMALL_NODES: usize = 12;
+const SMALL_ARCS: usize = 26;
+const SMALL_CAMERAS: usize = 8;
+
+pub enum GraphTruth {
+    Refused(u8),
+    Path(Graph),
+    Barrier(Graph, Vec<usize>),
+}
+
+pub fn graph_truth(file: &[u8]) -> GraphTruth {
+    let graph = match graph_trial::read(file) {
+        Ok(graph) => graph,
+        Err(refusal) => return GraphTruth::Refused(refusal),
+    };
+    let small = graph.nodes() <= SMALL_NODES && graph.arcs.len() <= SMALL_ARCS;
+    let reached = if small { graph_trial::reachable(&graph) } else { arc_matching::reachable(&graph) };
+    if reached[mate(graph.source)] {
+        return GraphTruth::Path(graph);
+    }
+    let classes = canonical(&graph, &reached);
+    GraphTruth::Barrier(graph, classes)
+}
+
+pub enum StockTruth {
+    Refused(u8),
+    Accepted(Stock, Standing),
+}
+
+pub fn stock_truth(file: &[u8]) -> StockTruth {
+    let stock = match stock_trial::read(file) {
+        Ok(stock) => stock,
+        Err(refusal) => return StockTruth::Refused(refusal),
+    };
+    let by = if stock.cameras <= SMALL_CAMERAS { stock_trial::standing } else { blossom::standing };
+    let standing = by(stock.cameras, &stock.fits);
+    StockTruth::Accepted(stock, standing)
+}
+
+#[derive(Clone, Copy, Debug, PartialEq)]
+pub enum Count {
+    Paths,
+    Barriers,
+    Stocks,
+    Refusals,
+}
+
+pub struct Owed<'a> {
+    pub number: u8,
+    pub count: Count,
+    pub is_right: Box<dyn Fn(&[u8]) -> bool + 'a>,
+}
+
+fn refused(number: u8) -> Owed<'static> {
+    Owed { number, count: Count::Refusals, is_right: Box::new(|_| false) }
+}
+
+pub fn graph_owed(truth: &GraphTruth) -> Owed<'_> {
+    match truth {
+        GraphTruth::Refused(number) => refused(*number),
+        GraphTruth::Path(graph) => {
+            Owed { number: 0, count: Count::Paths, is_right: Box::new(|answer| is_path_answer(graph, answer)) }
+        }
+        GraphTruth::Barrier(_, classes) => {
+            Owed { number: 0, count: Count::Barriers, is_right: Box::new(|answer| answer == barrier_file(classes)) }
+        }
+    }
+}
+
+pub fn plan_owed(truth: &StockTruth) -> Owed<'_> {
+    match truth {
+        StockTruth::Refused(number) => refused(*number),
+        StockTruth::Accepted(stock, standing) => {
+            Owed { number: 0, count: Count::Stocks, is_right: Box::new(|answer| is_plan_answer(stock, standing, answer)) }
+        }
+    }
+}
+
+pub fn sheet_owed(truth: &StockTruth) -> Owed<'_> {
+    match truth {
+        StockTruth::Refused(number) => refused(*number),
+        StockTruth::Accepted(_, standing) => {
+            let sheet = sheet_file(standing.greatest, &standing.marks);
+            Owed { number: 0, count: Count::Stocks, is_right: Box::new(move |answer| answer == sheet) }
+        }
+    }
+}
+
+/// The answer is exactly the frames of some regular path from the source to its mate.
+fn is_path_answer(graph: &Graph, answer: &[u8]) -> bool {
+    match graph_trial::read_certificate(graph, answer) {
+        Ok(Certificate::Path(arcs)) => answer == path_file(&arcs) && is_wanted(graph, &arcs),
+        _ => false,
+    }
+}
+
+/// The answer is exactly the frames of some plan.
+fn is_plan_answer(stock: &Stock, standing: &Standing, answer: &[u8]) -> bool {
+    let pairs = Text::of(answer).pairs(PLAN.bodies[0]);
+    answer == plan_file(&pairs) && is_plan(stock, standing.greatest, &pairs)
+}
+
+/// Whether an answer to a graph opens as a path or as a barrier does, for messages.
+pub fn opening(answer: &[u8]) -> &'static str {
+    match crate::frames::kind_of(Text::of(answer).header()) {
+        kind if kind == PATH.header as usize => "a path",
+        kind if kind == BARRIER.header as usize => "a barrier",
+        _ => "neither path nor barrier",
+    }
+}
