@@ -1,5 +1,6 @@
 //! Regular paths of large graphs by matchings, to know what the trial of all regular paths cannot reach.
 //!   reachable      the nodes where some regular path from the source ends
+//!   path_to        a regular path from the source to another node
 //!   wanted_path    a regular path from the source to its mate
 //! An undirected graph with a vertex for each arc, matched with the vertex of its mate: vertex i stands for having gone along arc i.
 //! Going on along arc j joins vertex i to the vertex of j's mate, by an edge outside the matching. So alternating paths of even length
@@ -58,12 +59,13 @@ pub fn reachable(graph: &Graph) -> Vec<bool> {
     reached
 }
 
-pub fn wanted_path(graph: &Graph) -> Option<Vec<usize>> {
+/// A regular path from the source to another node.
+pub fn path_to(graph: &Graph, node: usize) -> Option<Vec<usize>> {
     let arcs = arcs_at_nodes(graph);
     let (root, goal) = (graph.arcs.len(), graph.arcs.len() + 1);
     let mut lists = lists_with_root(graph, &arcs);
-    lists.push(arcs.into[mate(graph.source)].clone());
-    for arc in &arcs.into[mate(graph.source)] {
+    lists.push(arcs.into[node].clone());
+    for arc in &arcs.into[node] {
         lists[*arc].push(goal);
     }
     let mut partner = mates_matched(graph);
@@ -76,6 +78,10 @@ pub fn wanted_path(graph: &Graph) -> Option<Vec<usize>> {
         at = partner[mate(at)].unwrap();
     }
     Some(without_rounds(graph, &walk))
+}
+
+pub fn wanted_path(graph: &Graph) -> Option<Vec<usize>> {
+    path_to(graph, mate(graph.source))
 }
 
 /// A walk from the source, without what it does between two visits of a node.

@@ -1,66 +1,20 @@
 //! Document 01's examples, edges and traps, each with what the document says of it, and the points that it leaves to the reader.
-//!   graphs, stocks            G1 to G5, S1 to S7
-//!   graph_examples ..         what is tried on an engine
-//!   examples_folder           the files of examples/ are these, and their answers are right
+//!   graph_examples, stock_examples    G1 to G5, S1 to S7
+//!   examples_folder                   the files of examples/ are these, and their answers are right
+//!   tallies                           calls in a row, with counts at and near 4,294,967,295
+//!   edges                             sizes at which a question changes its answer, and the buffer's
+//!   traps                             document 01's traps
+//!   points_left_to_the_reader         what is decided where document 01 can be read in two ways
 
 use crate::engine::{Tally, Verdict};
 use crate::frames::{barrier_file, file, graph_file, pair_lines, path_file, plan_file, sheet_file, stock_file, Pair};
 use crate::generate::all_fits;
-use crate::graph_trial::{self, Graph};
+use crate::graph_trial;
 use crate::judge::{shown, Call, Judge, Trial, LEAST_ROOM};
-use crate::stock_trial::{self, Stock};
+use crate::known::{graph, graphs, stock, stocks, KnownGraph, KnownStock, G3, G4, G5, S7};
+use crate::stock_trial;
 use crate::truth::{graph_owed, graph_truth, plan_owed, sheet_owed, stock_truth, Count};
 use std::fs;
-
-const G3: [Pair; 2] = [(0, 2), (3, 1)];
-const G4: [Pair; 4] = [(0, 2), (3, 1), (2, 3), (2, 3)];
-const G5: [Pair; 6] = [(0, 2), (3, 1), (2, 3), (2, 3), (0, 2), (3, 1)];
-const S7: [Pair; 7] = [(0, 1), (0, 2), (1, 2), (2, 3), (3, 4), (3, 5), (4, 5)];
-
-fn graph(pairs: usize, arcs: &[Pair]) -> Graph {
-    Graph { pairs, source: 0, arcs: arcs.to_vec() }
-}
-
-fn stock(cameras: usize, fits: &[Pair], lit: &[Pair]) -> Stock {
-    Stock { cameras, fits: fits.to_vec(), lit: lit.to_vec() }
-}
-
-/// Each graph with the answers that are right.
-pub fn graphs() -> Vec<(&'static str, Graph, Vec<Vec<u8>>)> {
-    let barrier = |classes: &[usize]| vec![barrier_file(classes)];
-    vec![
-        ("G1", graph(1, &[]), vec![b"31\n320001\n320102\n3F0002\n".to_vec()]),
-        ("G2", graph(1, &[(0, 1), (0, 1)]), vec![path_file(&[0]), path_file(&[1])]),
-        ("G3", graph(2, &G3), barrier(&[1, 2, 1, 2])),
-        ("G4", graph(2, &G4), barrier(&[1, 2, 3, 3])),
-        ("G5", graph(2, &G5), [[0, 2, 5], [0, 3, 5], [4, 2, 1], [4, 3, 1]].iter().map(|arcs| path_file(arcs)).collect()),
-    ]
-}
-
-/// Each stock with its sheet and the plans that are right.
-pub fn stocks() -> Vec<(&'static str, Stock, Vec<u8>, Vec<Vec<u8>>)> {
-    let ring = [(0, 1), (0, 4), (1, 2), (2, 3), (3, 4)];
-    let two_of_ring = [[(0, 1), (2, 3)], [(0, 1), (3, 4)], [(0, 4), (1, 2)], [(0, 4), (2, 3)], [(1, 2), (3, 4)]];
-    let triangle = [(0, 1), (0, 2), (1, 2)];
-    let star = [(0, 1), (0, 2), (0, 3)];
-    let chain = [(0, 1), (1, 2), (2, 3)];
-    vec![
-        ("S1", stock(0, &[], &[]), b"4100\n4F0000\n".to_vec(), vec![plan_file(&[])]),
-        ("S2", stock(2, &[(0, 1)], &[]), sheet_file(1, &[2, 2]), vec![plan_file(&[(0, 1)])]),
-        (
-            "S3",
-            stock(3, &triangle, &[]),
-            b"4101\n430000\n430100\n430200\n4F0003\n".to_vec(),
-            triangle.iter().map(|fit| plan_file(&[*fit])).collect(),
-        ),
-        ("S4", stock(4, &star, &[]), sheet_file(1, &[1, 0, 0, 0]), star.iter().map(|fit| plan_file(&[*fit])).collect()),
-        ("S5", stock(4, &chain, &[(1, 2)]), sheet_file(2, &[2, 2, 2, 2]), vec![b"5102\n520001\n520203\n5F0002\n".to_vec()]),
-        ("S6", stock(5, &ring, &[]), sheet_file(2, &[0, 0, 0, 0, 0]), two_of_ring.iter().map(|pairs| plan_file(pairs)).collect()),
-        ("S7", stock(6, &S7, &[]), sheet_file(3, &[2; 6]), vec![plan_file(&[(0, 1), (2, 3), (4, 5)])]),
-    ]
-}
-
-// ---- what is tried
 
 /// What the trial itself says, against document 01.
 fn by_trial<T: PartialEq + std::fmt::Debug>(file: &[u8], found: T, right: T) -> Trial {
@@ -92,24 +46,26 @@ fn sheet_answer(judge: &mut Judge, file: &[u8]) -> Result<Vec<u8>, String> {
 }
 
 pub fn graph_examples(judge: &mut Judge) -> Trial {
-    for (name, graph, right) in graphs() {
-        judge.graph(&graph.file())?;
-        let answer = graph_answer(judge, &graph.file())?;
-        one_of(name, &answer, &right)?;
-        for text in right {
-            verdict(judge, &graph.file(), &text, Verdict::Yes)?;
+    for known in graphs() {
+        let file = known.graph.file();
+        judge.graph(&file)?;
+        let answer = graph_answer(judge, &file)?;
+        one_of(known.name, &answer, &known.answers)?;
+        for answer in &known.answers {
+            verdict(judge, &file, answer, Verdict::Yes)?;
         }
     }
     Ok(())
 }
 
 pub fn stock_examples(judge: &mut Judge) -> Trial {
-    for (name, stock, sheet, plans) in stocks() {
-        judge.stock(&stock.file())?;
-        let answer = sheet_answer(judge, &stock.file())?;
-        one_of(name, &answer, &[sheet])?;
-        let answer = plan_answer(judge, &stock.file())?;
-        one_of(name, &answer, &plans)?;
+    for known in stocks() {
+        let file = known.stock.file();
+        judge.stock(&file)?;
+        let answer = sheet_answer(judge, &file)?;
+        one_of(known.name, &answer, &[known.sheet])?;
+        let answer = plan_answer(judge, &file)?;
+        one_of(known.name, &answer, &known.plans)?;
     }
     Ok(())
 }
@@ -274,11 +230,11 @@ fn example_is(name: &str, right: &[Vec<u8>]) -> Trial {
 }
 
 pub fn examples_folder(judge: &mut Judge) -> Trial {
-    for (name, graph, answers) in graphs() {
+    for KnownGraph { name, graph, answers } in graphs() {
         example_is(&format!("{name}.graph"), &[graph.file()])?;
         example_is(&format!("{name}.answer"), &answers)?;
     }
-    for (name, stock, sheet, plans) in stocks() {
+    for KnownStock { name, stock, sheet, plans } in stocks() {
         example_is(&format!("{name}.stock"), &[stock.file()])?;
         example_is(&format!("{name}.sheet"), &[sheet])?;
         example_is(&format!("{name}.plan"), &plans)?;
@@ -289,11 +245,4 @@ pub fn examples_folder(judge: &mut Judge) -> Trial {
         judge.certificate(&example(&format!("{name}.graph"))?, &example(&format!("{name}.certificate"))?)?;
     }
     Ok(())
-}
-
-/// Every file of the examples, for damage.
-pub fn example_files() -> (Vec<Vec<u8>>, Vec<Vec<u8>>) {
-    let graph_files = graphs().into_iter().map(|(_, graph, _)| graph.file()).collect();
-    let stock_files = stocks().into_iter().map(|(_, stock, _, _)| stock.file()).collect();
-    (graph_files, stock_files)
 }

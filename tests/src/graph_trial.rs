@@ -2,7 +2,9 @@
 //!   Graph                 mate pairs of nodes, source, arcs in file order
 //!   ask, read             one question put to a graph file; all in order
 //!   reachable             the nodes where some regular path from the source ends: every regular path is gone along
+//!   least_of_parts        connected parts, each named by its least node
 //!   canonical             the canonical barrier's classes, of the reachable nodes
+//!   regular_end           where arcs end that are a regular path from the source
 //!   is_wanted             arcs are a regular path from the source to its mate
 //!   is_barrier            classes are a barrier
 //!   Certificate           a path or a barrier; ask_certificate and read_certificate as for graphs
@@ -109,18 +111,23 @@ pub fn reachable(graph: &Graph) -> Vec<bool> {
     walk.reached
 }
 
-/// The arcs, by number, are a regular path from the source to its mate.
-pub fn is_wanted(graph: &Graph, arcs: &[usize]) -> bool {
+/// Where the arcs, by number, end as a regular path from the source; none where they are no such path.
+pub fn regular_end(graph: &Graph, arcs: &[usize]) -> Option<usize> {
     let mut visited = vec![graph.source];
     for arc in arcs {
         let (tail, head) = graph.arcs[*arc];
         if tail != visited[visited.len() - 1] || visited.contains(&head) {
-            return false;
+            return None;
         }
         visited.push(head);
     }
     let with_mate = arcs.iter().any(|arc| arcs.contains(&mate(*arc)));
-    !with_mate && visited[visited.len() - 1] == mate(graph.source)
+    (!with_mate).then_some(visited[visited.len() - 1])
+}
+
+/// The arcs are a regular path from the source to its mate.
+pub fn is_wanted(graph: &Graph, arcs: &[usize]) -> bool {
+    regular_end(graph, arcs) == Some(mate(graph.source))
 }
 
 // ---- barriers
@@ -130,21 +137,27 @@ pub const A: usize = 1;
 pub const A_MATES: usize = 2;
 pub const FIRST_X: usize = 3;
 
-/// One class for each node, by the reachable nodes.
-pub fn canonical(graph: &Graph, reached: &[bool]) -> Vec<usize> {
-    let in_x = |node: usize| reached[node] && reached[mate(node)];
-    // the least node of each node's part of X: the smaller one spreads over the arcs until nothing changes
-    let mut least: Vec<usize> = (0..graph.nodes()).collect();
+/// The least node of each node's connected part, arcs taken without direction: the smaller spreads until nothing changes.
+pub fn least_of_parts(nodes: usize, arcs: &[Pair]) -> Vec<usize> {
+    let mut least: Vec<usize> = (0..nodes).collect();
     let mut changed = true;
     while changed {
         changed = false;
-        for (tail, head) in graph.arcs.iter().copied().filter(|(tail, head)| in_x(*tail) && in_x(*head)) {
-            let smaller = least[tail].min(least[head]);
-            changed = changed || least[tail] != smaller || least[head] != smaller;
-            least[tail] = smaller;
-            least[head] = smaller;
+        for (tail, head) in arcs {
+            let smaller = least[*tail].min(least[*head]);
+            changed = changed || least[*tail] != smaller || least[*head] != smaller;
+            least[*tail] = smaller;
+            least[*head] = smaller;
         }
     }
+    least
+}
+
+/// One class for each node, by the reachable nodes.
+pub fn canonical(graph: &Graph, reached: &[bool]) -> Vec<usize> {
+    let in_x = |node: usize| reached[node] && reached[mate(node)];
+    let within: Vec<Pair> = graph.arcs.iter().copied().filter(|(tail, head)| in_x(*tail) && in_x(*head)).collect();
+    let least = least_of_parts(graph.nodes(), &within);
     let firsts: Vec<usize> = (0..graph.nodes()).filter(|node| in_x(*node) && least[*node] == *node).collect();
     let class = |node: usize| match (reached[node], reached[mate(node)]) {
         (true, true) => FIRST_X + firsts.iter().position(|first| *first == least[node]).unwrap(),

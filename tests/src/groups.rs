@@ -6,7 +6,7 @@
 
 use crate::engine::Engine;
 use crate::judge::{Judge, Seen, Trial};
-use crate::{cases, large, trials};
+use crate::{cases, exhaustive, large, self_checks, trials};
 use std::panic::{catch_unwind, AssertUnwindSafe};
 
 pub struct Group {
@@ -22,9 +22,11 @@ const fn group(name: &'static str, share: usize, tried: fn(&mut Judge, usize) ->
 
 pub fn of_trial() -> Vec<Group> {
     vec![
-        group("all pairings agree with the blossom algorithm", 200, trials::pairings_agree),
-        group("all regular paths agree with matchings of arcs", 200, trials::paths_agree),
-        group("a path, or else the canonical barrier", 200, trials::barriers_exclude_paths),
+        group("all pairings agree with the blossom algorithm", 200, self_checks::pairings_agree),
+        group("the bound of Tutte and Berge is met", 10, self_checks::bounds_are_met),
+        group("all regular paths agree with matchings of arcs", 100, self_checks::paths_agree),
+        group("a path to each node reached in larger graphs", 10, self_checks::paths_are_found),
+        group("a path, or else the canonical barrier", 200, self_checks::barriers_exclude_paths),
     ]
 }
 
@@ -44,12 +46,16 @@ pub fn of_engine() -> Vec<Group> {
         group("certificates", 100, trials::certificates),
         group("certificates damaged at every byte", 90, trials::damaged_certificates),
         group("files damaged at every byte", 90, trials::damaged_files),
+        group("every table of classes", 60, exhaustive::all_classes),
+        group("every run of arcs", 60, exhaustive::all_runs),
         group("random bytes", 60, trials::random_bytes),
         group("small graphs", 280, trials::small_graphs),
         group("small stocks", 220, trials::small_stocks),
         group("doubled tables", 60, trials::doubled_tables),
         group("middling graphs", 40, trials::middling_graphs),
         group("middling stocks", 20, trials::middling_stocks),
+        group("every graph of one or two mate pairs", 0, |judge, _| exhaustive::all_graphs(judge)),
+        group("every stock of up to five cameras", 0, |judge, _| exhaustive::all_stocks(judge)),
         group("a path of 255 arcs", 0, |judge, _| large::long_path(judge)),
         group("127 parts", 0, |judge, _| large::many_parts(judge)),
         group("buds inside buds", 0, |judge, _| large::nested_buds(judge)),

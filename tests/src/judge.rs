@@ -26,6 +26,8 @@ pub enum Call {
 /// Calls by what they came to.
 #[derive(Default)]
 pub struct Seen {
+    /// what the trial was compared with itself on, without a call
+    pub compared: usize,
     pub files: usize,
     pub calls: usize,
     pub paths: usize,
@@ -213,7 +215,7 @@ impl<'a> Judge<'a> {
             0 => u32::MAX,
             1 => u32::MAX - 1,
             2 => 0,
-            _ => self.random.next() as u32,
+            _ => self.random.number() as u32,
         };
         Tally { paths: count(), barriers: count(), stocks: count(), refusals: count() }
     }

@@ -12,24 +12,30 @@
 //!   judge           a call judged whole: result, buffer, tally
 //!   generate        random graphs and stocks
 //!   faults          files that fail chosen questions
+//!   known           document 01's known graphs and stocks
 //!   cases           document 01's examples, edges and traps
+//!   exhaustive      every graph, stock and certificate of a small size
 //!   trials          what is tried with random files
 //!   large           the largest files
+//!   self_checks     the trial against itself
 //!   groups          all that is tried, by name
 
 pub mod arc_matching;
 pub mod blossom;
 pub mod cases;
 pub mod engine;
+pub mod exhaustive;
 pub mod faults;
 pub mod frames;
 pub mod generate;
 pub mod graph_trial;
 pub mod groups;
 pub mod judge;
+pub mod known;
 pub mod large;
 pub mod random;
 pub mod reference;
+pub mod self_checks;
 pub mod stock_trial;
 pub mod trials;
 pub mod truth;

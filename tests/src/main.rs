@@ -64,7 +64,11 @@ impl Summary {
     fn try_groups(&mut self, groups: &[Group], engine: &dyn Engine, options: &Options) {
         for group in groups.iter().filter(|group| group.name.contains(&options.only)) {
             let (seen, outcome) = run(group, engine, options.seed, options.files);
-            self.tell(group.name, outcome.map(|_| format!(" ({} files, {} calls)", seen.files, seen.calls)));
+            let note = match seen.compared {
+                0 => format!(" ({} files, {} calls)", seen.files, seen.calls),
+                compared => format!(" ({compared} compared)"),
+            };
+            self.tell(group.name, outcome.map(|_| note));
             self.seen.add(&seen);
         }
     }

@@ -1,5 +1,6 @@
 //! A small seeded generator of numbers (splitmix64), so that each run can be repeated.
 //!   Random::new(seed)     the generator that starts at a seed
+//!   number(), byte()      any number, any byte
 //!   below(n)              a number from 0 to n - 1
 //!   between(low, high)    a number from low to high, both included
 //!   chance(percent)       true that often in a hundred
@@ -15,7 +16,7 @@ impl Random {
         Random { state: seed }
     }
 
-    pub fn next(&mut self) -> u64 {
+    pub fn number(&mut self) -> u64 {
         self.state = self.state.wrapping_add(0x9E37_79B9_7F4A_7C15);
         let mut mixed = self.state;
         mixed = (mixed ^ (mixed >> 30)).wrapping_mul(0xBF58_476D_1CE4_E5B9);
@@ -24,7 +25,7 @@ impl Random {
     }
 
     pub fn below(&mut self, bound: usize) -> usize {
-        (self.next() % bound as u64) as usize
+        (self.number() % bound as u64) as usize
     }
 
     pub fn between(&mut self, low: usize, high: usize) -> usize {
@@ -32,7 +33,7 @@ impl Random {
     }
 
     pub fn byte(&mut self) -> u8 {
-        self.next() as u8
+        self.number() as u8
     }
 
     pub fn chance(&mut self, percent: usize) -> bool {

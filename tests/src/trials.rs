@@ -1,5 +1,4 @@
 //! What is tried with random files.
-//!   pairings_agree, paths_agree, barriers_exclude_paths    the trial against itself, without an engine
 //!   small_graphs .. middling_stocks                        random graphs and stocks
 //!   certificates                                           right, wrong and random certificates
 //!   damaged_certificates, damaged_files                    one byte changed, left out or put in, at every place
@@ -9,52 +8,13 @@
 //! Where there is a choice, the number of files to try is given.
 
 use crate::arc_matching;
-use crate::blossom;
-use crate::cases::{example_files, graphs};
 use crate::faults::{failing, graph_for_certificates, questions, Kind, KINDS};
 use crate::frames::{barrier_file, path_file};
 use crate::generate::{doubled_table, middling_graph, middling_stock, shuffled_graph, small_graph, small_stock};
-use crate::graph_trial::{self, canonical, is_barrier, is_wanted, mate, Graph};
-use crate::judge::{shown, Judge, Trial};
+use crate::graph_trial::{self, canonical, mate, Graph};
+use crate::judge::{Judge, Trial};
+use crate::known::{graph_files, graphs, stock_files};
 use crate::random::Random;
-use crate::stock_trial;
-
-// ---- the trial against itself
-
-pub fn pairings_agree(judge: &mut Judge, files: usize) -> Trial {
-    for _ in 0..files {
-        let stock = small_stock(&mut judge.random);
-        let tried = stock_trial::standing(stock.cameras, &stock.fits);
-        if blossom::standing(stock.cameras, &stock.fits) != tried {
-            return Err(format!("all pairings and the blossom algorithm differ\n{}", shown(&stock.file())));
-        }
-    }
-    Ok(())
-}
-
-pub fn paths_agree(judge: &mut Judge, files: usize) -> Trial {
-    for _ in 0..files {
-        let graph = small_graph(&mut judge.random);
-        let tried = graph_trial::reachable(&graph);
-        let path = arc_matching::wanted_path(&graph);
-        let path_agrees = path.is_some() == tried[mate(graph.source)] && path.iter().all(|arcs| is_wanted(&graph, arcs));
-        if arc_matching::reachable(&graph) != tried || !path_agrees {
-            return Err(format!("all regular paths and matchings of arcs differ\n{}", shown(&graph.file())));
-        }
-    }
-    Ok(())
-}
-
-pub fn barriers_exclude_paths(judge: &mut Judge, files: usize) -> Trial {
-    for _ in 0..files {
-        let graph = small_graph(&mut judge.random);
-        let reached = graph_trial::reachable(&graph);
-        if is_barrier(&graph, &canonical(&graph, &reached)) == reached[mate(graph.source)] {
-            return Err(format!("a path and a barrier, or neither\n{}", shown(&graph.file())));
-        }
-    }
-    Ok(())
-}
 
 // ---- random graphs and stocks
 
@@ -174,11 +134,11 @@ pub fn damaged_certificates(judge: &mut Judge, files: usize) -> Trial {
     let examples = graphs();
     let mut tried = 0;
     while tried < files {
-        for (_, graph, answers) in &examples {
-            let certificate = judge.random.choose(answers).clone();
+        for known in &examples {
+            let certificate = judge.random.choose(&known.answers).clone();
             for place in 0..certificate.len() {
                 let bytes = damaged(&mut judge.random, &certificate, place);
-                judge.certificate(&graph.file(), &bytes)?;
+                judge.certificate(&known.graph.file(), &bytes)?;
                 tried += 1;
             }
         }
@@ -187,19 +147,18 @@ pub fn damaged_certificates(judge: &mut Judge, files: usize) -> Trial {
 }
 
 pub fn damaged_files(judge: &mut Judge, files: usize) -> Trial {
-    let (graph_files, stock_files) = example_files();
     let mut tried = 0;
     while tried < files {
-        for file in &graph_files {
+        for file in graph_files() {
             for place in 0..file.len() {
-                let bytes = damaged(&mut judge.random, file, place);
+                let bytes = damaged(&mut judge.random, &file, place);
                 judge.graph(&bytes)?;
                 tried += 1;
             }
         }
-        for file in &stock_files {
+        for file in stock_files() {
             for place in 0..file.len() {
-                let bytes = damaged(&mut judge.random, file, place);
+                let bytes = damaged(&mut judge.random, &file, place);
                 judge.stock(&bytes)?;
                 tried += 1;
             }
@@ -210,17 +169,16 @@ pub fn damaged_files(judge: &mut Judge, files: usize) -> Trial {
 
 /// Every beginning of every example file and answer.
 pub fn truncated_files(judge: &mut Judge) -> Trial {
-    let (graph_files, stock_files) = example_files();
-    for file in &graph_files {
+    for file in graph_files() {
         (0..=file.len()).try_for_each(|length| judge.graph(&file[..length]))?;
     }
-    for file in &stock_files {
+    for file in stock_files() {
         (0..=file.len()).try_for_each(|length| judge.stock(&file[..length]))?;
     }
-    for (_, graph, answers) in graphs() {
-        let file = graph.file();
-        (0..=answers[0].len()).try_for_each(|length| judge.certificate(&file, &answers[0][..length]))?;
-        (0..file.len()).try_for_each(|length| judge.certificate(&file[..length], &answers[0]))?;
+    for known in graphs() {
+        let (file, answer) = (known.graph.file(), &known.answers[0]);
+        (0..=answer.len()).try_for_each(|length| judge.certificate(&file, &answer[..length]))?;
+        (0..file.len()).try_for_each(|length| judge.certificate(&file[..length], answer))?;
     }
     Ok(())
 }

@@ -1,0 +1,102 @@
+//! Everything of a size.
+//!   all_graphs      every graph of one mate pair and up to three pairs of arcs; of two mate pairs likewise, with source 0
+//!   all_stocks      every stock of up to five cameras, with every pairing lit
+//!   all_classes     every table of classes up to 04 that agrees with mates, for random small graphs
+//!   all_runs        every run of up to three arcs, for random small graphs
+
+use crate::frames::{barrier_file, path_file, Pair};
+use crate::generate::{all_fits, random_graph};
+use crate::graph_trial::{self, is_barrier, mate, Graph};
+use crate::judge::{shown, Judge, Trial};
+use crate::stock_trial::{each_pairing, Stock};
+
+pub fn all_graphs(judge: &mut Judge) -> Trial {
+    for (pairs, source) in [(1, 0), (1, 1), (2, 0)] {
+        for arc_pairs in 0..=3 {
+            try_graphs(judge, &mut Graph { pairs, source, arcs: Vec::new() }, arc_pairs)?;
+        }
+    }
+    Ok(())
+}
+
+/// The graph with that many more pairs of arcs, in every way.
+fn try_graphs(judge: &mut Judge, graph: &mut Graph, more: usize) -> Trial {
+    if more == 0 {
+        return judge.graph(&graph.file());
+    }
+    let nodes = graph.nodes();
+    (0..nodes * nodes).try_for_each(|number| {
+        let (tail, head) = (number / nodes, number % nodes);
+        graph.arcs.extend([(tail, head), (mate(head), mate(tail))]);
+        let outcome = try_graphs(judge, graph, more - 1);
+        graph.arcs.truncate(graph.arcs.len() - 2);
+        outcome
+    })
+}
+
+pub fn all_stocks(judge: &mut Judge) -> Trial {
+    for cameras in 0..=5 {
+        let every = all_fits(cameras);
+        for set in 0..1_usize << every.len() {
+            let fits: Vec<Pair> = (0..every.len()).filter(|place| set >> place & 1 == 1).map(|place| every[place]).collect();
+            let mut pairings = Vec::new();
+            each_pairing(cameras, &fits, &mut |pairs| pairings.push(pairs.to_vec()));
+            for lit in pairings {
+                judge.stock(&Stock { cameras, fits: fits.clone(), lit }.file())?;
+            }
+        }
+    }
+    Ok(())
+}
+
+fn some_graph(judge: &mut Judge) -> Graph {
+    let pairs = judge.random.between(1, 3);
+    let arc_pairs = judge.random.below(4);
+    random_graph(&mut judge.random, pairs, arc_pairs)
+}
+
+pub fn all_classes(judge: &mut Judge, files: usize) -> Trial {
+    let last = judge.seen.files + files;
+    while judge.seen.files < last {
+        let graph = some_graph(judge);
+        let open = graph_trial::reachable(&graph)[mate(graph.source)];
+        for number in 0..5_usize.pow(graph.pairs as u32) {
+            let classes = classes_by(number, graph.pairs);
+            judge.certificate(&graph.file(), &barrier_file(&classes))?;
+            if open && is_barrier(&graph, &classes) {
+                return Err(format!("the trial has a path and a barrier\n{}", shown(&graph.file())));
+            }
+        }
+    }
+    Ok(())
+}
+
+/// A digit of base five for each mate pair: M, A and its mate, its mate and A, X1, X2.
+fn classes_by(number: usize, pairs: usize) -> Vec<usize> {
+    let both = [[0, 0], [1, 2], [2, 1], [3, 3], [4, 4]];
+    (0..pairs).flat_map(|pair| both[number / 5_usize.pow(pair as u32) % 5]).collect()
+}
+
+pub fn all_runs(judge: &mut Judge, files: usize) -> Trial {
+    let last = judge.seen.files + files;
+    while judge.seen.files < last {
+        let graph = some_graph(judge);
+        for length in 0..=3 {
+            try_runs(judge, &graph, &mut Vec::new(), length)?;
+        }
+    }
+    Ok(())
+}
+
+/// The run with that many more arcs, in every way.
+fn try_runs(judge: &mut Judge, graph: &Graph, run: &mut Vec<usize>, more: usize) -> Trial {
+    if more == 0 {
+        return judge.certificate(&graph.file(), &path_file(run));
+    }
+    (0..graph.arcs.len()).try_for_each(|arc| {
+        run.push(arc);
+        let outcome = try_runs(judge, graph, run, more - 1);
+        run.pop();
+        outcome
+    })
+}

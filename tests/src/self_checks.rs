@@ -1,0 +1,98 @@
+//! The trial against itself; no engine is called.
+//!   pairings_agree           all pairings and the blossom algorithm, on small stocks
+//!   bounds_are_met           on larger stocks: a pairing of the greatest number, and the bound of Tutte and Berge that no pairing exceeds
+//!   paths_agree              all regular paths and matchings of arcs, on small graphs
+//!   paths_are_found          on larger graphs: a regular path to each reachable node; without one to the source's mate, a barrier
+//!   barriers_exclude_paths   a path, or else the canonical barrier
+
+use crate::arc_matching;
+use crate::blossom;
+use crate::frames::Pair;
+use crate::generate::{
+    doubled_table, ear_fits, middling_graph, middling_stock, shuffled_graph, small_graph, small_stock, stock_of,
+};
+use crate::graph_trial::{self, canonical, is_barrier, least_of_parts, mate, regular_end, Graph};
+use crate::judge::{shown, Judge, Trial};
+use crate::stock_trial::{self, is_plan, Stock};
+
+fn compare(judge: &mut Judge, agree: bool, what: &str, file: &[u8]) -> Trial {
+    judge.seen.compared += 1;
+    if agree {
+        Ok(())
+    } else {
+        Err(format!("{what}\n{}", shown(file)))
+    }
+}
+
+pub fn pairings_agree(judge: &mut Judge, files: usize) -> Trial {
+    (0..files).try_for_each(|_| {
+        let stock = small_stock(&mut judge.random);
+        let agree = blossom::standing(stock.cameras, &stock.fits) == stock_trial::standing(stock.cameras, &stock.fits);
+        compare(judge, agree, "all pairings and the blossom algorithm differ", &stock.file())
+    })
+}
+
+/// No pairing has more pairs than half of: cameras, plus some cameras, less the odd parts of the stock without those.
+fn bound_without(stock: &Stock, taken: impl Fn(usize) -> bool) -> usize {
+    let left: Vec<Pair> = stock.fits.iter().copied().filter(|(u, v)| !taken(*u) && !taken(*v)).collect();
+    let least = least_of_parts(stock.cameras, &left);
+    let mut sizes = vec![0; stock.cameras];
+    (0..stock.cameras).filter(|camera| !taken(*camera)).for_each(|camera| sizes[least[camera]] += 1);
+    let odd = sizes.iter().filter(|size| **size % 2 == 1).count();
+    let number_taken = (0..stock.cameras).filter(|camera| taken(*camera)).count();
+    (stock.cameras + number_taken - odd) / 2
+}
+
+pub fn bounds_are_met(judge: &mut Judge, files: usize) -> Trial {
+    (0..files).try_for_each(|number| {
+        let random = &mut judge.random;
+        let stock = if number % 10 == 0 { stock_of(127, &ear_fits(random, 127), &[]) } else { middling_stock(random) };
+        let standing = blossom::standing(stock.cameras, &stock.fits);
+        let found = is_plan(&stock, standing.greatest, &crate::reference::plan(&stock));
+        let agree = found && bound_without(&stock, |camera| standing.marks[camera] == 1) == standing.greatest;
+        compare(judge, agree, "the greatest number is not reached, or not bounded", &stock.file())
+    })
+}
+
+pub fn paths_agree(judge: &mut Judge, files: usize) -> Trial {
+    (0..files).try_for_each(|_| {
+        let graph = small_graph(&mut judge.random);
+        let reached = graph_trial::reachable(&graph);
+        let agree = arc_matching::reachable(&graph) == reached && paths_lead_to(&graph, &reached);
+        compare(judge, agree, "all regular paths and matchings of arcs differ", &graph.file())
+    })
+}
+
+/// A regular path is found to each node reached, and to no other.
+fn paths_lead_to(graph: &Graph, reached: &[bool]) -> bool {
+    let others = (0..graph.nodes()).filter(|node| *node != graph.source);
+    others.into_iter().all(|node| match arc_matching::path_to(graph, node) {
+        Some(arcs) => reached[node] && regular_end(graph, &arcs) == Some(node),
+        None => !reached[node],
+    })
+}
+
+pub fn paths_are_found(judge: &mut Judge, files: usize) -> Trial {
+    (0..files).try_for_each(|number| {
+        let random = &mut judge.random;
+        let graph = if number % 2 == 0 {
+            middling_graph(random)
+        } else {
+            let table = doubled_table(&middling_stock(random));
+            shuffled_graph(random, &table)
+        };
+        let reached = arc_matching::reachable(&graph);
+        let barred = is_barrier(&graph, &canonical(&graph, &reached));
+        let agree = paths_lead_to(&graph, &reached) && barred != reached[mate(graph.source)];
+        compare(judge, agree, "a node reached without a path, or neither path nor barrier", &graph.file())
+    })
+}
+
+pub fn barriers_exclude_paths(judge: &mut Judge, files: usize) -> Trial {
+    (0..files).try_for_each(|_| {
+        let graph = small_graph(&mut judge.random);
+        let reached = graph_trial::reachable(&graph);
+        let barred = is_barrier(&graph, &canonical(&graph, &reached));
+        compare(judge, barred != reached[mate(graph.source)], "a path and a barrier, or neither", &graph.file())
+    })
+}
