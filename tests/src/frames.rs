@@ -102,7 +102,7 @@ fn is_digit(byte: u8) -> bool {
 }
 
 fn is_even_digits(line: &[u8]) -> bool {
-    !line.is_empty() && line.len() % 2 == 0 && line.iter().all(|byte| is_digit(*byte))
+    !line.is_empty() && line.len().is_multiple_of(2) && line.iter().all(|byte| is_digit(*byte))
 }
 
 fn is_frame(line: &[u8], kind: u8, digits: usize) -> bool {

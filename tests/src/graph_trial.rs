@@ -49,7 +49,7 @@ pub fn ask(text: &Text, question: u8) -> bool {
     let named = |node: usize| node < graph.nodes();
     match question {
         5 => (0x01..=0x80).contains(&graph.pairs) && named(graph.source),
-        8 => graph.arcs.len() % 2 == 0 && graph.arcs.len() <= 8_192,
+        8 => graph.arcs.len().is_multiple_of(2) && graph.arcs.len() <= 8_192,
         9 => graph.arcs.iter().all(|(tail, head)| named(*tail) && named(*head)),
         10 => graph.arcs.chunks_exact(2).all(|two| two[1] == (mate(two[0].1), mate(two[0].0))),
         _ => text.answers(&GRAPH, question),

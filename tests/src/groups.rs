@@ -2,10 +2,12 @@
 //!   Group       a name, a share of the files, and what is tried
 //!   of_trial    the trial against itself; no engine is called
 //!   of_engine   what an engine must pass; those that cost least come first
+//!   of_programs what the programs must pass
 //!   run         one group, with a seed of its own; a panic is a failure
 
 use crate::engine::Engine;
 use crate::judge::{Judge, Seen, Trial};
+use crate::programs::{self, Programs};
 use crate::{cases, exhaustive, large, self_checks, trials};
 use std::panic::{catch_unwind, AssertUnwindSafe};
 
@@ -67,6 +69,17 @@ pub fn of_engine() -> Vec<Group> {
         group("62 lit pairs in a chain", 0, |judge, _| large::long_chain(judge)),
         group("odd rings", 0, |judge, _| large::odd_rings(judge)),
         group("ears of 90 to 127 cameras", 1, large::ears),
+    ]
+}
+
+pub type ProgramTrial = fn(&Programs) -> Trial;
+
+/// Document 01's examples first.
+pub fn of_programs() -> Vec<(&'static str, ProgramTrial)> {
+    vec![
+        ("programs: document 01's examples", programs::examples),
+        ("programs: refusals, long and empty input", programs::refusals),
+        ("programs: files that can't be opened", programs::missing_files),
     ]
 }
 

@@ -1,6 +1,7 @@
 //! Calls to an engine, each judged whole: refusal number, size, every byte of the buffer and around it, and the tally.
 //!   Judge                 an engine, a source of numbers, and counts of what was tried
 //!   graph, stock          a file handed to the calls for its kind, and judged by what document 01 says of it
+//!   short_buffers         the same with a buffer that is too small
 //!   all_calls             any bytes handed to every call
 //!   check, certificate    two files handed to the check; the second counted as a file tried
 //!   in_a_row              calls on one tally
@@ -109,6 +110,14 @@ impl<'a> Judge<'a> {
             self.lend(Call::Sheet, file, room, &sheet_owed(&truth))?;
         }
         Ok(())
+    }
+
+    /// Whatever the file, a buffer of 2,047 gives 1.
+    pub fn short_buffers(&mut self, file: &[u8]) -> Trial {
+        let owed = Owed { number: 1, count: Count::Refusals, is_right: Box::new(|_| false) };
+        [Call::Graph, Call::Plan, Call::Sheet]
+            .into_iter()
+            .try_for_each(|call| self.lend(call, file, LEAST_ROOM - 1, &owed).map(drop))
     }
 
     /// As a graph, as a stock, and as a certificate of a given graph.
@@ -230,9 +239,7 @@ pub fn raised(tally: Tally, count: Count) -> Tally {
         Count::Stocks => &mut raised.stocks,
         Count::Refusals => &mut raised.refusals,
     };
-    if *place != 4_294_967_295 {
-        *place += 1;
-    }
+    *place = place.saturating_add(1);
     raised
 }
 

@@ -17,6 +17,7 @@
 //!   exhaustive      every graph, stock and certificate of a small size
 //!   trials          what is tried with random files
 //!   large           the largest files
+//!   programs        the programs, run on files
 //!   self_checks     the trial against itself
 //!   groups          all that is tried, by name
 
@@ -33,6 +34,7 @@ pub mod groups;
 pub mod judge;
 pub mod known;
 pub mod large;
+pub mod programs;
 pub mod random;
 pub mod reference;
 pub mod self_checks;

@@ -16,11 +16,16 @@ pub enum GraphAnswer {
     Barrier(Vec<usize>),
 }
 
+/// What a file holds, or the number that refuses it.
+pub type Reader<T> = Box<dyn Fn(&[u8]) -> Result<T, u8>>;
+pub type CertificateReader = Box<dyn Fn(&Graph, &[u8]) -> Result<Certificate, u8>>;
+
 pub struct Parts {
     pub least_room: usize,
-    pub read_graph: Box<dyn Fn(&[u8]) -> Result<Graph, u8>>,
-    pub read_stock: Box<dyn Fn(&[u8]) -> Result<Stock, u8>>,
-    pub read_certificate: Box<dyn Fn(&Graph, &[u8]) -> Result<Certificate, u8>>,
+    pub buffer_first: bool,
+    pub read_graph: Reader<Graph>,
+    pub read_stock: Reader<Stock>,
+    pub read_certificate: CertificateReader,
     pub answer: fn(&Graph) -> GraphAnswer,
     pub plan: fn(&Stock) -> Vec<Pair>,
     pub standing: fn(&Stock) -> Standing,
@@ -35,6 +40,7 @@ impl Parts {
     pub fn right() -> Parts {
         Parts {
             least_room: 2_048,
+            buffer_first: true,
             read_graph: Box::new(graph_trial::read),
             read_stock: Box::new(stock_trial::read),
             read_certificate: Box::new(graph_trial::read_certificate),
@@ -54,11 +60,18 @@ impl Parts {
         (self.refuse)(number, out)
     }
 
-    fn answer_stock(&self, file: &[u8], out: &mut [u8], tally: &mut Tally, text: impl Fn(&Stock) -> Vec<u8>) -> Told {
-        if out.len() < self.least_room {
-            return self.refusal(1, out, tally);
+    /// Question 1, then the file's.
+    fn read<T>(&self, reader: &Reader<T>, file: &[u8], out: &[u8]) -> Result<T, u8> {
+        let room = if out.len() < self.least_room { Err(1) } else { Ok(()) };
+        if self.buffer_first {
+            room?;
         }
-        match (self.read_stock)(file) {
+        let read = reader(file)?;
+        room.map(|_| read)
+    }
+
+    fn answer_stock(&self, file: &[u8], out: &mut [u8], tally: &mut Tally, text: impl Fn(&Stock) -> Vec<u8>) -> Told {
+        match self.read(&self.read_stock, file, out) {
             Err(number) => self.refusal(number, out, tally),
             Ok(stock) => {
                 tally.stocks = (self.raise)(tally.stocks);
@@ -92,10 +105,7 @@ pub fn write(answer: &[u8], out: &mut [u8]) -> Told {
 
 impl Engine for Parts {
     fn answer_graph(&self, file: &[u8], out: &mut [u8], tally: &mut Tally) -> Told {
-        if out.len() < self.least_room {
-            return self.refusal(1, out, tally);
-        }
-        let graph = match (self.read_graph)(file) {
+        let graph = match self.read(&self.read_graph, file, out) {
             Err(number) => return self.refusal(number, out, tally),
             Ok(graph) => graph,
         };

@@ -205,6 +205,7 @@ pub fn random_bytes(judge: &mut Judge, files: usize) -> Trial {
 
 fn judge_faulty(judge: &mut Judge, kind: Kind, faults: &[u8]) -> Trial {
     let file = failing(&mut judge.random, kind, faults)?;
+    judge.short_buffers(&file)?;
     match kind {
         Kind::Graph => {
             judge.graph(&file)?;

@@ -58,10 +58,12 @@ pub enum Count {
     Refusals,
 }
 
+pub type AnswerTest<'a> = Box<dyn Fn(&[u8]) -> bool + 'a>;
+
 pub struct Owed<'a> {
     pub number: u8,
     pub count: Count,
-    pub is_right: Box<dyn Fn(&[u8]) -> bool + 'a>,
+    pub is_right: AnswerTest<'a>,
 }
 
 fn refused(number: u8) -> Owed<'static> {

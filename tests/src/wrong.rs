@@ -180,11 +180,8 @@ fn with_classes(graph: &Graph, change: impl Fn(&mut [usize])) -> GraphAnswer {
 
 fn buds_apart(graph: &Graph) -> GraphAnswer {
     with_classes(graph, |classes| {
-        let mut next = 3;
-        for pair in classes.chunks_exact_mut(2).filter(|pair| pair[0] >= 3) {
-            pair.fill(next);
-            next += 1;
-        }
+        let buds = classes.chunks_exact_mut(2).filter(|pair| pair[0] >= 3);
+        buds.zip(3..).for_each(|(bud, class)| bud.fill(class));
     })
 }
 
@@ -209,6 +206,7 @@ fn slips() -> Vec<Named> {
         named("a refusal with a size", Parts { refuse: |number, _| Told { number, size: 5 }, ..right() }),
         named("a buffer of 2,047 taken", Parts { least_room: 2_047, ..right() }),
         named("a buffer of 2,048 refused", Parts { least_room: 2_049, ..right() }),
+        named("the buffer questioned after the file", Parts { buffer_first: false, ..right() }),
         named("a tally that wraps", Parts { raise: |count| count.wrapping_add(1), ..right() }),
         named("a tally that never counts", Parts { raise: |count| count, ..right() }),
         named(
