@@ -8,7 +8,7 @@
 use crate::engine::Engine;
 use crate::judge::{Judge, Seen, Trial};
 use crate::programs::{self, Programs};
-use crate::{cases, exhaustive, large, self_checks, trials};
+use crate::{cases, damage, exhaustive, large, self_checks, trials};
 use std::panic::{catch_unwind, AssertUnwindSafe};
 
 pub struct Group {
@@ -41,16 +41,18 @@ pub fn of_engine() -> Vec<Group> {
         group("traps", 0, |judge, _| cases::traps(judge)),
         group("edges", 0, |judge, _| cases::edges(judge)),
         group("points left to the reader", 0, |judge, _| cases::points_left_to_the_reader(judge)),
-        group("truncated files", 0, |judge, _| trials::truncated_files(judge)),
+        group("truncated files", 0, |judge, _| damage::truncated_files(judge)),
         group("single faults", 30, trials::single_faults),
         group("pairs of faults", 50, trials::pairs_of_faults),
         group("faults in both files of a check", 0, |judge, _| trials::faults_in_both_files(judge)),
         group("certificates", 100, trials::certificates),
-        group("certificates damaged at every byte", 90, trials::damaged_certificates),
-        group("files damaged at every byte", 90, trials::damaged_files),
+        group("certificates damaged at every byte", 0, |judge, _| damage::damaged_certificates(judge)),
+        group("files damaged at every byte", 0, |judge, _| damage::damaged_files(judge)),
+        group("answers damaged at one byte", 60, damage::damaged_random_answers),
         group("every table of classes", 60, exhaustive::all_classes),
         group("every run of arcs", 60, exhaustive::all_runs),
-        group("random bytes", 60, trials::random_bytes),
+        group("random bytes", 60, damage::random_bytes),
+        group("random frames", 60, damage::random_frames),
         group("small graphs", 280, trials::small_graphs),
         group("small stocks", 220, trials::small_stocks),
         group("doubled tables", 60, trials::doubled_tables),

@@ -76,7 +76,7 @@ pub struct Judge<'a> {
 
 pub const LEAST_ROOM: usize = 2_048;
 
-/// Bytes before and after the lent buffer, which no call may touch.
+/// Bytes before and after the lent buffer, which no call may touch; some more before it, so that it may stand at any address.
 const MARGIN: usize = 64;
 
 impl<'a> Judge<'a> {
@@ -86,6 +86,28 @@ impl<'a> Judge<'a> {
 
     pub fn graph(&mut self, file: &[u8]) -> Trial {
         self.seen.files += 1;
+        self.as_graph(file)
+    }
+
+    pub fn stock(&mut self, file: &[u8]) -> Trial {
+        self.seen.files += 1;
+        self.as_stock(file)
+    }
+
+    pub fn certificate(&mut self, graph: &[u8], certificate: &[u8]) -> Trial {
+        self.seen.files += 1;
+        self.check(graph, certificate)
+    }
+
+    /// As a graph, as a stock, and as a certificate of a given graph.
+    pub fn all_calls(&mut self, graph: &[u8], file: &[u8]) -> Trial {
+        self.seen.files += 1;
+        self.as_graph(file)?;
+        self.as_stock(file)?;
+        self.check(graph, file)
+    }
+
+    fn as_graph(&mut self, file: &[u8]) -> Trial {
         let truth = graph_truth(file);
         let owed = graph_owed(&truth);
         let (room, short) = self.rooms();
@@ -99,8 +121,7 @@ impl<'a> Judge<'a> {
         Ok(())
     }
 
-    pub fn stock(&mut self, file: &[u8]) -> Trial {
-        self.seen.files += 1;
+    fn as_stock(&mut self, file: &[u8]) -> Trial {
         let truth = stock_truth(file);
         let (room, short) = self.rooms();
         self.lend(Call::Plan, file, room, &plan_owed(&truth))?;
@@ -118,19 +139,6 @@ impl<'a> Judge<'a> {
         [Call::Graph, Call::Plan, Call::Sheet]
             .into_iter()
             .try_for_each(|call| self.lend(call, file, LEAST_ROOM - 1, &owed).map(drop))
-    }
-
-    /// As a graph, as a stock, and as a certificate of a given graph.
-    pub fn all_calls(&mut self, graph: &[u8], file: &[u8]) -> Trial {
-        self.graph(file)?;
-        self.stock(file)?;
-        self.seen.files -= 1;
-        self.check(graph, file)
-    }
-
-    pub fn certificate(&mut self, graph: &[u8], certificate: &[u8]) -> Trial {
-        self.seen.files += 1;
-        self.check(graph, certificate)
     }
 
     pub fn check(&mut self, graph: &[u8], certificate: &[u8]) -> Trial {
@@ -167,11 +175,12 @@ impl<'a> Judge<'a> {
     /// One call with a buffer of a size. Returns the answer, empty for a refusal.
     pub fn lend(&mut self, call: Call, file: &[u8], room: usize, owed: &Owed) -> Result<Vec<u8>, String> {
         let (number, count) = if room < LEAST_ROOM { (1, Count::Refusals) } else { (owed.number, owed.count) };
-        let before: Vec<u8> = (0..room + 2 * MARGIN).map(|_| self.random.byte()).collect();
+        let start = MARGIN + self.random.below(16);
+        let before: Vec<u8> = (0..start + room + MARGIN).map(|_| self.random.byte()).collect();
         let tally_before = self.some_tally();
         let mut after = before.clone();
         let mut tally = tally_before;
-        let told = self.call(call, file, &mut after[MARGIN..MARGIN + room], &mut tally);
+        let told = self.call(call, file, &mut after[start..start + room], &mut tally);
         self.count(count, number);
         let fault = |what: String| Err(format!("{call:?} with a buffer of {room}: {what}\n{}", shown(file)));
         if told.number != number {
@@ -180,8 +189,8 @@ impl<'a> Judge<'a> {
         if told.size > room || (number != 0 && told.size != 0) {
             return fault(format!("size {} with number {number}", told.size));
         }
-        let answer = after[MARGIN..MARGIN + told.size].to_vec();
-        if before[..MARGIN] != after[..MARGIN] || before[MARGIN + told.size..] != after[MARGIN + told.size..] {
+        let answer = after[start..start + told.size].to_vec();
+        if before[..start] != after[..start] || before[start + told.size..] != after[start + told.size..] {
             return fault("a byte outside the answer changed".to_string());
         }
         if tally != raised(tally_before, count) {

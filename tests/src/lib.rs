@@ -8,14 +8,15 @@
 //!   truth           what document 01 says of a file
 //!   engine          the calls, and the proved engine where it is linked
 //!   reference       an engine made of the trial's parts
-//!   wrong           engines with one part wrong
+//!   wrong, slips    engines with one part wrong
 //!   judge           a call judged whole: result, buffer, tally
 //!   generate        random graphs and stocks
 //!   faults          files that fail chosen questions
 //!   known           document 01's known graphs and stocks
 //!   cases           document 01's examples, edges and traps
 //!   exhaustive      every graph, stock and certificate of a small size
-//!   trials          what is tried with random files
+//!   trials          random graphs, stocks, certificates and faults
+//!   damage          files damaged, cut off, or of random bytes
 //!   large           the largest files
 //!   programs        the programs, run on files
 //!   self_checks     the trial against itself
@@ -24,6 +25,7 @@
 pub mod arc_matching;
 pub mod blossom;
 pub mod cases;
+pub mod damage;
 pub mod engine;
 pub mod exhaustive;
 pub mod faults;
@@ -38,6 +40,7 @@ pub mod programs;
 pub mod random;
 pub mod reference;
 pub mod self_checks;
+pub mod slips;
 pub mod stock_trial;
 pub mod trials;
 pub mod truth;

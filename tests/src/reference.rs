@@ -16,6 +16,15 @@ pub enum GraphAnswer {
     Barrier(Vec<usize>),
 }
 
+impl GraphAnswer {
+    pub fn file(&self) -> Vec<u8> {
+        match self {
+            GraphAnswer::Path(arcs) => path_file(arcs),
+            GraphAnswer::Barrier(classes) => barrier_file(classes),
+        }
+    }
+}
+
 /// What a file holds, or the number that refuses it.
 pub type Reader<T> = Box<dyn Fn(&[u8]) -> Result<T, u8>>;
 pub type CertificateReader = Box<dyn Fn(&Graph, &[u8]) -> Result<Certificate, u8>>;
@@ -109,16 +118,12 @@ impl Engine for Parts {
             Err(number) => return self.refusal(number, out, tally),
             Ok(graph) => graph,
         };
-        match (self.answer)(&graph) {
-            GraphAnswer::Path(arcs) => {
-                tally.paths = (self.raise)(tally.paths);
-                (self.write)(&path_file(&arcs), out)
-            }
-            GraphAnswer::Barrier(classes) => {
-                tally.barriers = (self.raise)(tally.barriers);
-                (self.write)(&barrier_file(&classes), out)
-            }
+        let answer = (self.answer)(&graph);
+        match answer {
+            GraphAnswer::Path(_) => tally.paths = (self.raise)(tally.paths),
+            GraphAnswer::Barrier(_) => tally.barriers = (self.raise)(tally.barriers),
         }
+        (self.write)(&answer.file(), out)
     }
 
     fn plan(&self, file: &[u8], out: &mut [u8], tally: &mut Tally) -> Told {

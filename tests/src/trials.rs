@@ -1,20 +1,17 @@
 //! What is tried with random files.
-//!   small_graphs .. middling_stocks                        random graphs and stocks
-//!   certificates                                           right, wrong and random certificates
-//!   damaged_certificates, damaged_files                    one byte changed, left out or put in, at every place
-//!   truncated_files, random_bytes
-//!   single_faults, pairs_of_faults                         every question as the first failing one, alone and with each later one
-//!   faults_in_both_files                                   the check: graph first, then certificate
+//!   small_graphs .. middling_stocks    random graphs and stocks
+//!   certificates                       right, wrong and random certificates
+//!   single_faults, pairs_of_faults     every question as the first failing one, alone and with each later one
+//!   faults_in_both_files               the check: graph first, then certificate
 //! Where there is a choice, the number of files to try is given.
 
-use crate::arc_matching;
 use crate::faults::{failing, graph_for_certificates, questions, Kind, KINDS};
 use crate::frames::{barrier_file, path_file};
 use crate::generate::{doubled_table, middling_graph, middling_stock, shuffled_graph, small_graph, small_stock};
 use crate::graph_trial::{self, canonical, mate, Graph};
 use crate::judge::{Judge, Trial};
-use crate::known::{graph_files, graphs, stock_files};
 use crate::random::Random;
+use crate::reference::answer;
 
 // ---- random graphs and stocks
 
@@ -104,100 +101,10 @@ pub fn certificates(judge: &mut Judge, files: usize) -> Trial {
         let certificate = match number % 4 {
             0 => path_file(&random_walk(random, &graph)),
             1 => barrier_file(&renumbered(&random_classes(random, &graph))),
-            2 => match arc_matching::wanted_path(&graph) {
-                Some(arcs) => path_file(&arcs),
-                None => barrier_file(&canonical(&graph, &arc_matching::reachable(&graph))),
-            },
+            2 => answer(&graph).file(),
             _ => barrier_file(&random_classes(random, &graph)),
         };
         judge.certificate(&graph.file(), &certificate)
-    })
-}
-
-// ---- damage
-
-/// A file with the byte at a place changed, left out, or another put in before it.
-fn damaged(random: &mut Random, file: &[u8], place: usize) -> Vec<u8> {
-    let mut bytes = file.to_vec();
-    match random.below(8) {
-        0 => drop(bytes.remove(place)),
-        1 => bytes.insert(place, *random.choose(b"0F\n")),
-        2 => bytes[place] = b'\n',
-        3 => bytes[place] = random.byte(),
-        4 => bytes[place] ^= 1 << random.below(8),
-        _ => bytes[place] = *random.choose(b"0123456789ABCDEF"),
-    }
-    bytes
-}
-
-pub fn damaged_certificates(judge: &mut Judge, files: usize) -> Trial {
-    let examples = graphs();
-    let mut tried = 0;
-    while tried < files {
-        for known in &examples {
-            let certificate = judge.random.choose(&known.answers).clone();
-            for place in 0..certificate.len() {
-                let bytes = damaged(&mut judge.random, &certificate, place);
-                judge.certificate(&known.graph.file(), &bytes)?;
-                tried += 1;
-            }
-        }
-    }
-    Ok(())
-}
-
-pub fn damaged_files(judge: &mut Judge, files: usize) -> Trial {
-    let mut tried = 0;
-    while tried < files {
-        for file in graph_files() {
-            for place in 0..file.len() {
-                let bytes = damaged(&mut judge.random, &file, place);
-                judge.graph(&bytes)?;
-                tried += 1;
-            }
-        }
-        for file in stock_files() {
-            for place in 0..file.len() {
-                let bytes = damaged(&mut judge.random, &file, place);
-                judge.stock(&bytes)?;
-                tried += 1;
-            }
-        }
-    }
-    Ok(())
-}
-
-/// Every beginning of every example file and answer.
-pub fn truncated_files(judge: &mut Judge) -> Trial {
-    for file in graph_files() {
-        (0..=file.len()).try_for_each(|length| judge.graph(&file[..length]))?;
-    }
-    for file in stock_files() {
-        (0..=file.len()).try_for_each(|length| judge.stock(&file[..length]))?;
-    }
-    for known in graphs() {
-        let (file, answer) = (known.graph.file(), &known.answers[0]);
-        (0..=answer.len()).try_for_each(|length| judge.certificate(&file, &answer[..length]))?;
-        (0..file.len()).try_for_each(|length| judge.certificate(&file[..length], answer))?;
-    }
-    Ok(())
-}
-
-pub fn random_bytes(judge: &mut Judge, files: usize) -> Trial {
-    let graph = graph_for_certificates().file();
-    (0..files).try_for_each(|number| {
-        let random = &mut judge.random;
-        let length = if random.chance(90) { random.below(60) } else { random.below(3_000) };
-        let kinds: [&[u8]; 8] = [b"010201\n", b"1104\n", b"21\n", b"31\n", b"020002\n", b"120001\n", b"0F0000\n", b"1F0001\n"];
-        let mut bytes = if number % 3 == 2 { random.choose(&kinds[..4]).to_vec() } else { Vec::new() };
-        while bytes.len() < length {
-            match number % 3 {
-                0 => bytes.push(random.byte()),
-                1 => bytes.push(*random.choose(b"0123456789ABCDEF\n")),
-                _ => bytes.extend_from_slice(kinds[random.below(kinds.len())]),
-            }
-        }
-        judge.all_calls(&graph, &bytes)
     })
 }
 
