@@ -157,7 +157,7 @@ impl<'a> Judge<'a> {
         Err(format!("check says {said:?}, owed is {owed:?}\n{files}"))
     }
 
-    /// Calls in a row on one tally, which each but the check counts up.
+    /// Calls in a row on one tally, each with the count that it owes.
     pub fn in_a_row(&mut self, start: Tally, calls: &[(Call, &[u8], Count)]) -> Trial {
         let mut tally = start;
         let mut owed = start;
