@@ -1,16 +1,20 @@
 -- Tests, which are Booleans, taken apart and put together. Assumes nothing.
 --   and-left, and-right, and-two .. and-five    what a true conjunction says of its parts
 --   and-both, or-right, or-cases                how true tests are put together, and a true `||` taken apart
+--   and-false, or-false-left, or-false-right    the same for tests that are false
+--   test-same                                   two tests that imply each other are equal
+--   pick-true, pick-false                       what `pick` picks
 --   by-test                                     cases on a test, with its equation
 --   true-false                                  no test is both true and false
 --   same-or                                     two numbers are equal or not
-use mathlib.Core.Path.{_≡_, refl}
+use mathlib.Core.Path.{_≡_, refl, sym}
 use mathlib.Core.Logic.{_⊎_, inl, inr, _≢_}
 use mathlib.Core.Bool.{Bool, true, false, _&&_, _||_}
 use Prim.Native.Nat.{ℕ}
 use native.Mathlib.Omega.{arith}
 use lib.Dec.{eqb}
 use borrow.Author.Tests.{eqb-true, eqb-false}
+use Rattle.counting.specs.Tests.{pick}
 
 pub and-left : (a b : Bool) → (a && b) ≡ true → a ≡ true
 and-left true b e = refl
@@ -43,6 +47,30 @@ or-right false b e = e
 pub or-cases : (a b : Bool) → (a || b) ≡ true → (a ≡ true) ⊎ (b ≡ true)
 or-cases true b e = inl refl
 or-cases false b e = inr e
+
+pub and-false : (a b : Bool) → (a ≡ false) ⊎ (b ≡ false) → (a && b) ≡ false
+and-false a b (inl e) = rw e
+and-false true b (inr e) = e
+and-false false b (inr e) = refl
+
+pub or-false-left : (a b : Bool) → (a || b) ≡ false → a ≡ false
+or-false-left true b e = e
+or-false-left false b e = refl
+
+pub or-false-right : (a b : Bool) → (a || b) ≡ false → b ≡ false
+or-false-right true b e = cc
+or-false-right false b e = e
+
+pub test-same : (a b : Bool) → (a ≡ true → b ≡ true) → (b ≡ true → a ≡ true) → a ≡ b
+test-same true b h k = sym (h refl)
+test-same false true h k = k refl
+test-same false false h k = refl
+
+pub pick-true : {A : Type 0} {b : Bool} (x y : A) → b ≡ true → pick b x y ≡ x
+pick-true x y e = rw e
+
+pub pick-false : {A : Type 0} {b : Bool} (x y : A) → b ≡ false → pick b x y ≡ y
+pick-false x y e = rw e
 
 pub by-test : {C : Type 0} (b : Bool) → (b ≡ true → C) → (b ≡ false → C) → C
 by-test true f g = f refl

@@ -2,7 +2,9 @@
 --   in-left, in-right, in-append      in xs ++ ys exactly if in xs or in ys
 --   in-split, in-middle               an element cuts its list in two; a list with one element more
 --   any-some, some-any                any f xs: some element has f
---   all-each, each-all, all-getD      all f xs: each element has f, also by its index
+--   all-each, each-all                all f xs: each element has f
+--   all-getD, getD-all                the same by index
+--   any-getD, getD-any                and any f xs by index
 --   among-in, in-among                among x xs: x is an element
 --   not-among-out, out-not-among      and where it is not
 use mathlib.Core.Path.{_≡_, refl, ap}
@@ -73,6 +75,23 @@ unfolding all
 all-getD f [] d i e h = absurd (omega arith)
 all-getD f (x ∷ xs) d zero e h = and-left (f x) (all f xs) e
 all-getD f (x ∷ xs) d (suc i) e h = all-getD f xs d i (and-right (f x) (all f xs) e) (omega arith)
+
+pub getD-all : {A : Type 0} (f : A → Bool) (xs : List A) (d : A) → ((i : ℕ) → i < length xs → f (getD xs i d) ≡ true) → all f xs ≡ true
+unfolding all
+getD-all f [] d h = refl
+getD-all f (x ∷ xs) d h = and-both (f x) (all f xs) (h 0 (omega arith)) (getD-all f xs d (λ i l. h (suc i) (omega arith)))
+
+pub any-getD : {A : Type 0} (f : A → Bool) (xs : List A) (d : A) → any f xs ≡ true → (i : ℕ) × (i < length xs) × (f (getD xs i d) ≡ true)
+unfolding any
+any-getD f [] d e = true-false e refl
+any-getD f (x ∷ xs) d e =
+    ⊎-elim (λ a. (0, omega arith, a)) (λ b. let r = any-getD f xs d b in (suc (r .0), omega (arith, r .1), r .2)) (or-cases (f x) (any f xs) e)
+
+pub getD-any : {A : Type 0} (f : A → Bool) (xs : List A) (d : A) (i : ℕ) → i < length xs → f (getD xs i d) ≡ true → any f xs ≡ true
+unfolding any
+getD-any f [] d i h e = absurd (omega arith)
+getD-any f (x ∷ xs) d zero h e = rw e
+getD-any f (x ∷ xs) d (suc i) h e = or-right (f x) (any f xs) (getD-any f xs d i (omega arith) e)
 
 -- AMONG
 pub among-in : (x : ℕ) (xs : List ℕ) → among x xs ≡ true → In x xs
