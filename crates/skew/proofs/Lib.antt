@@ -1,0 +1,24 @@
+-- Laws of the theory.
+pub mod Mates
+pub mod Unmated
+pub mod Paths
+pub mod Segments
+pub mod Reachable
+pub mod SourcePath
+pub mod TreeStep
+pub mod BudStep
+pub mod Absorb
+pub mod Ascent
+pub mod Settled
+pub mod Scan
+pub mod Measure
+pub mod Start
+pub mod Existence
+pub mod Restoration
+pub mod Exact
+pub mod Classes
+pub mod BarrierExcludes
+pub mod Parts
+pub mod Canonical
+pub mod Barrier
+pub mod Promise

@@ -1,0 +1,65 @@
+-- Mates of nodes and of arcs: the lowest bit flipped.
+use mathlib.Core.Path.{_≡_, refl, sym, ap, _∙_}
+use mathlib.Core.Logic.{_≢_}
+use mathlib.Core.Bool.{Bool, true, false}
+use mathlib.Core.List.{List, [], _∷_}
+use Prim.Native.Nat.{ℕ, zero, suc, _+_, _*_, _-_, _%_, _<_}
+use native.Mathlib.Omega.{arith}
+use lib.Dec.{eqb}
+use lib.ListN.{length, getD}
+use borrow.Author.Tests.{eqb-true, eqb-false}
+use Rattle.counting.specs.Tests.{pick}
+use Rattle.counting.specs.Pairs.{Pair, noPair}
+use Rattle.skew.specs.Graph.{mate, areMates, matesFit}
+use Rattle.counting.proofs.Booleans.{and-left, and-right}
+
+-- what a stuck `pick` is, as arithmetic that omega reads
+pub mate-is : (v : ℕ) → mate v ≡ v + 1 - 2 * (v % 2)
+mate-is v = go (eqb (v % 2) 0) refl
+  where
+    go : (b : Bool) → eqb (v % 2) 0 ≡ b → pick b (v + 1) (v - 1) ≡ v + 1 - 2 * (v % 2)
+    go true e = omega (arith, eqb-true (v % 2) 0 e)
+    go false e = let h : v % 2 ≢ 0 = eqb-false (v % 2) 0 e in omega arith
+
+pub mate-mate : (v : ℕ) → mate (mate v) ≡ v
+mate-mate v = omega (arith, mate-is v, mate-is (mate v))
+
+pub mate-other : (v : ℕ) → mate v ≢ v
+mate-other v = omega (arith, mate-is v)
+
+pub mate-below : (v n : ℕ) → n % 2 ≡ 0 → v < n → mate v < n
+mate-below v n e h = omega (arith, mate-is v)
+
+pub mate-inj : (v w : ℕ) → mate v ≡ mate w → v ≡ w
+mate-inj v w e = omega (arith, mate-is v, mate-is w)
+
+pub mate-suc-suc : (v : ℕ) → mate (suc (suc v)) ≡ suc (suc (mate v))
+mate-suc-suc v = omega (arith, mate-is v, mate-is (suc (suc v)))
+
+-- matesFit, read at an index
+pub record AreMates (x y : Pair) : Type 0 where
+  pub first : y .first ≡ mate (x .second)
+  pub second : y .second ≡ mate (x .first)
+
+are-mates : (x y : Pair) → areMates x y ≡ true → AreMates x y
+are-mates x y e =
+    record {
+      first = eqb-true (y .first) (mate (x .second)) (and-left _ _ e);
+      second = eqb-true (y .second) (mate (x .first)) (and-right (eqb (y .first) (mate (x .second))) _ e);
+    }
+
+are-mates-back : (x y : Pair) → AreMates x y → AreMates y x
+are-mates-back x y h =
+    record {
+      first = sym (mate-mate (x .first)) ∙ ap (λ (n : ℕ). mate n) (sym (h .second));
+      second = sym (mate-mate (x .second)) ∙ ap (λ (n : ℕ). mate n) (sym (h .first));
+    }
+
+pub arcs-mates : (xs : List Pair) → matesFit xs ≡ true → length xs % 2 ≡ 0 → (i : ℕ) → i < length xs → AreMates (getD xs i noPair) (getD xs (mate i) noPair)
+unfolding matesFit
+arcs-mates [] f e i h = absurd (omega arith)
+arcs-mates (x ∷ []) f e i h = absurd (omega arith)
+arcs-mates (x ∷ y ∷ xs) f e zero h = are-mates x y (and-left _ _ f)
+arcs-mates (x ∷ y ∷ xs) f e (suc zero) h = are-mates-back x y (are-mates x y (and-left _ _ f))
+arcs-mates (x ∷ y ∷ xs) f e (suc (suc i)) h =
+    rw (mate-suc-suc i) (arcs-mates xs (and-right (areMates x y) _ f) (omega arith) i (omega arith))

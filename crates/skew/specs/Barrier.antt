@@ -1,0 +1,25 @@
+-- Barriers as a type (document 000, section 2.1; document 01, "The barrier"): what `isBarrier` tests. Classes: 0 M, 1 A, 2 A', 3 and on the Xi.
+--   classesFit a b       an arc may lead from class a to class b
+--   isEntry cs c x       the arc x leads from A into class c
+--   Barrier g cs         the classes cs are a barrier of g
+use mathlib.Core.Path.{_≡_}
+use mathlib.Core.Bool.{Bool, true, _&&_, _||_, not}
+use mathlib.Core.List.{List}
+use Prim.Native.Nat.{ℕ, _≤_, _<_}
+use lib.Dec.{eqb}
+use lib.ListN.{length}
+use Rattle.counting.specs.Pairs.{Pair}
+use Rattle.skew.specs.Graph.{Graph, mate, nodes, classAt, largestOf, mateClass, entriesInto, isXM}
+use Rattle.skew.specs.Paths.{tail, head}
+
+abbrev pub classesFit : (from to : ℕ) → Bool
+classesFit a b = not (isXM a && isXM b && not (eqb a b)) && not (eqb a 1 && (eqb b 2 || eqb b 0))
+
+abbrev pub isEntry : (classes : List ℕ) → (class : ℕ) → Pair → Bool
+isEntry cs c x = eqb (classAt cs (x .first)) 1 && eqb (classAt cs (x .second)) c
+
+pub record Barrier (g : Graph) (cs : List ℕ) : Type 0 where
+  pub source-class : classAt cs (g .source) ≡ 1
+  pub mate-class : (v : ℕ) → v < nodes g → classAt cs (mate v) ≡ mateClass (classAt cs v)
+  pub arc-fits : (i : ℕ) → i < length (g .arcs) → classesFit (classAt cs (tail g i)) (classAt cs (head g i)) ≡ true
+  pub one-entry : (c : ℕ) → 3 ≤ c → c ≤ largestOf cs → entriesInto cs c (g .arcs) ≡ 1
