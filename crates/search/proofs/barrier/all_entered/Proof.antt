@@ -1,0 +1,67 @@
+-- The classes before c passed. Assumes nothing.
+use mathlib.Core.Path.{_≡_, refl, sym, _∙_}
+use Prim.Native.Nat.{suc, _≤_, _-_}
+use native.Mathlib.Omega.{arith}
+use Rattle.counting.specs.Tests.{below}
+use Rattle.search.specs.Classes.{enteredOnce}
+use Rattle.search.proofs.Judging.{Judged}
+use Rattle.search.proofs.Classes.{entered-start, entered-next, entered-fails, entered-end}
+use Rattle.search.proofs.barrier.all_entered.Statement.{statement}
+use Rattle.search.proofs.barrier.all_entered.Tie as tie
+use Rattle.search.proofs.barrier.all_entered.Reads as reads
+use Rattle.search.proofs.barrier.all_entered.Lts as lts
+use Rattle.search.proofs.node.wide.Reads as wide-reads
+use borrow.Author.Needs.{needs}
+
+abbrev Inv-loop : tie.InvT-loop
+Inv-loop top entries last c₀ c = (3 ≤ c) × (last ≡ top) × Judged (enteredOnce entries) (below (suc top)) c
+
+abbrev μ-loop : tie.MeasureT-loop
+μ-loop top entries last c₀ c = suc last - c
+
+wide-requires : tie.Need-wide-requires Inv-loop μ-loop
+wide-requires c κs = search needs
+
+loop-holds : tie.Need-loop-holds Inv-loop μ-loop
+loop-holds c =
+    (omega arith, c .wide .ensures .0, entered-start (c .before .args .entries .now) (c .before .args .top))
+
+mul-if1 : tie.Need-mul-if1 Inv-loop μ-loop
+mul-if1 c = search needs
+
+element-copy-out-if1 : tie.Need-element-copy-out-if1 Inv-loop μ-loop
+element-copy-out-if1 c = search needs
+
+returns : tie.Need-returns Inv-loop μ-loop
+returns c =
+    entered-fails (c .before .before .before .before .before .args .entries .now) (c .before .before .before .before .before .args .top) _ (c .before .before .before .loop .inv .2) (c .before .before .before .loop .inv .0) (omega (arith, c .before .before .before .loop .inv .1)) (c .if1 .taken)
+
+add-c : tie.Need-add-c Inv-loop μ-loop
+add-c c = search needs
+
+loop-less : tie.Need-loop-less Inv-loop μ-loop
+loop-less c = search needs
+
+loop-again : tie.Need-loop-again Inv-loop μ-loop
+loop-again c =
+    (omega arith, c .before .before .before .loop .inv .1, entered-next (c .before .before .before .before .before .args .entries .now) (c .before .before .before .before .before .args .top) _ (c .before .before .before .loop .inv .2) (c .before .before .before .loop .inv .0) (omega (arith, c .before .before .before .loop .inv .1)) (c .if1 .left))
+
+returns-2 : tie.Need-returns-2 Inv-loop μ-loop
+returns-2 c =
+    entered-end (c .before .before .before .args .entries .now) (c .before .before .before .args .top) (c .before .loop .c) (c .before .loop .inv .2) (omega (arith, c .before .loop .inv .1))
+
+pub all-entered-spec : {M : Type 1} → statement M
+all-entered-spec =
+    tie.close
+    (tie.spec
+    Inv-loop
+    μ-loop
+    wide-requires
+    loop-holds
+    mul-if1
+    element-copy-out-if1
+    returns
+    add-c
+    loop-less
+    loop-again
+    returns-2)

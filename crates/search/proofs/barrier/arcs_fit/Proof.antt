@@ -1,0 +1,87 @@
+-- The arcs before i passed. Assumes nothing.
+use mathlib.Core.Path.{_≡_, refl, sym, _∙_}
+use Prim.Native.Nat.{_≤_, _-_}
+use native.Mathlib.Omega.{arith}
+use lib.ListN.{length}
+use borrow.Author.Tests.{not-true, not-false}
+use Rattle.skew.specs.Graph.{arcFits}
+use Rattle.search.specs.Table.{arcsOf}
+use Rattle.search.proofs.Judging.{Judged}
+use Rattle.search.proofs.Classes.{arcs-next, arcs-fail, arcs-end}
+use Rattle.search.proofs.barrier.arcs_fit.Statement.{statement}
+use Rattle.search.proofs.barrier.arcs_fit.Tie as tie
+use Rattle.search.proofs.barrier.arcs_fit.Reads as reads
+use Rattle.search.proofs.barrier.arcs_fit.Lts as lts
+use Rattle.search.proofs.barrier.classes_fit.Reads as classes-fit-reads
+use Rattle.search.proofs.node.wide.Reads as wide-reads
+use borrow.Author.Needs.{needs}
+
+abbrev Inv-loop : tie.InvT-loop
+Inv-loop tails heads classes i₀ i = (i ≤ length tails) × Judged (arcFits classes) (arcsOf tails heads) i
+
+abbrev μ-loop : tie.MeasureT-loop
+μ-loop tails heads classes i₀ i = length tails - i
+
+loop-holds : tie.Need-loop-holds Inv-loop μ-loop
+loop-holds c = (omega arith, refl)
+
+shared-slice-read-wide : tie.Need-shared-slice-read-wide Inv-loop μ-loop
+shared-slice-read-wide c = search needs
+
+wide-requires : tie.Need-wide-requires Inv-loop μ-loop
+wide-requires c κs = search needs
+
+shared-slice-read-wide-2 : tie.Need-shared-slice-read-wide-2 Inv-loop μ-loop
+shared-slice-read-wide-2 c = omega (arith, c .before .before .before .before .before .before .before .before .pre .same)
+
+wide-requires-2 : tie.Need-wide-requires-2 Inv-loop μ-loop
+wide-requires-2 c κs = search needs
+
+shared-slice-read-classes-fit : tie.Need-shared-slice-read-classes-fit Inv-loop μ-loop
+shared-slice-read-classes-fit c =
+    omega (arith, c .before .before .before .before .before .before .before .before .before .before .pre .tails (c .before .before .before .before .before .before .loop .i) (c .before .before .before .before .before .loop-test .taken), c .before .before .before .wide .ensures)
+
+shared-slice-read-classes-fit-2 : tie.Need-shared-slice-read-classes-fit-2 Inv-loop μ-loop
+shared-slice-read-classes-fit-2 c =
+    omega (arith, c .before .before .before .before .before .before .before .before .before .before .before .pre .heads (c .before .before .before .before .before .before .before .loop .i) (c .before .before .before .before .before .before .loop-test .taken), c .before .before .wide2 .ensures)
+
+classes-fit-requires : tie.Need-classes-fit-requires Inv-loop μ-loop
+classes-fit-requires c κs = search needs
+
+returns : tie.Need-returns Inv-loop μ-loop
+returns c =
+    arcs-fail (c .before .before .before .before .before .before .before .before .before .before .before .before .before .args .classes .now) (c .before .before .before .before .before .before .before .before .before .before .before .before .before .args .tails .now) (c .before .before .before .before .before .before .before .before .before .before .before .before .before .args .heads .now) _ (c .before .before .before .before .before .before .before .before .before .loop .inv .1) (c .before .before .before .before .before .before .before .before .loop-test .taken) (rw (← c .before .before .before .before .before .before .wide .ensures .0, ← c .before .before .before .before .wide2 .ensures .0, ← c .before .classes-fit .ensures) (not-true _ (c .if1 .taken)))
+
+add-i : tie.Need-add-i Inv-loop μ-loop
+add-i c = search needs
+
+loop-less : tie.Need-loop-less Inv-loop μ-loop
+loop-less c = search needs
+
+loop-again : tie.Need-loop-again Inv-loop μ-loop
+loop-again c =
+    (omega arith, arcs-next (c .before .before .before .before .before .before .before .before .before .before .before .before .before .args .classes .now) (c .before .before .before .before .before .before .before .before .before .before .before .before .before .args .tails .now) (c .before .before .before .before .before .before .before .before .before .before .before .before .before .args .heads .now) _ (c .before .before .before .before .before .before .before .before .before .loop .inv .1) (c .before .before .before .before .before .before .before .before .loop-test .taken) (rw (← c .before .before .before .before .before .before .wide .ensures .0, ← c .before .before .before .before .wide2 .ensures .0, ← c .before .classes-fit .ensures) (not-false _ (c .if1 .left))))
+
+returns-2 : tie.Need-returns-2 Inv-loop μ-loop
+returns-2 c =
+    arcs-end (c .before .before .before .before .before .args .classes .now) (c .before .before .before .before .before .args .tails .now) (c .before .before .before .before .before .args .heads .now) _ (c .before .loop .inv .1) (c .loop-test .left)
+
+pub arcs-fit-spec : {M : Type 1} → statement M
+arcs-fit-spec =
+    tie.close
+    (tie.spec
+    Inv-loop
+    μ-loop
+    loop-holds
+    shared-slice-read-wide
+    wide-requires
+    shared-slice-read-wide-2
+    wide-requires-2
+    shared-slice-read-classes-fit
+    shared-slice-read-classes-fit-2
+    classes-fit-requires
+    returns
+    add-i
+    loop-less
+    loop-again
+    returns-2)

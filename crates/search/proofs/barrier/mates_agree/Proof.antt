@@ -1,0 +1,73 @@
+-- The nodes before v passed. Assumes nothing.
+use mathlib.Core.Path.{_≡_, refl, sym, ap, _∙_}
+use Prim.Native.Nat.{_≤_, _-_}
+use native.Mathlib.Omega.{arith}
+use lib.ListN.{length, getD}
+use borrow.Author.Tests.{eq-eqb, ne-eqb}
+use Rattle.counting.specs.Tests.{below}
+use Rattle.skew.specs.Graph.{matesAgree}
+use Rattle.skew.proofs.Mates.{mate-below}
+use Rattle.search.proofs.Judging.{Judged, range-next, range-fails, range-end}
+use Rattle.search.proofs.barrier.mates_agree.Statement.{statement}
+use Rattle.search.proofs.barrier.mates_agree.Tie as tie
+use Rattle.search.proofs.barrier.mates_agree.Reads as reads
+use Rattle.search.proofs.barrier.mates_agree.Lts as lts
+use Rattle.search.proofs.barrier.mate_class.Reads as mate-class-reads
+use Rattle.search.proofs.node.mate_of.Reads as mate-of-reads
+use borrow.Author.Needs.{needs}
+
+abbrev Inv-loop : tie.InvT-loop
+Inv-loop classes v₀ v = (v ≤ length classes) × Judged (matesAgree classes) (below (length classes)) v
+
+abbrev μ-loop : tie.MeasureT-loop
+μ-loop classes v₀ v = length classes - v
+
+loop-holds : tie.Need-loop-holds Inv-loop μ-loop
+loop-holds c = (omega arith, refl)
+
+mate-of-requires : tie.Need-mate-of-requires Inv-loop μ-loop
+mate-of-requires c κs = search needs
+
+shared-slice-read-if1 : tie.Need-shared-slice-read-if1 Inv-loop μ-loop
+shared-slice-read-if1 c =
+    omega (arith, c .before .mate-of .ensures, mate-below (c .before .before .before .loop .v) (length (c .before .before .before .before .before .args .classes .now)) (c .before .before .before .before .before .pre .0) (c .before .before .loop-test .taken))
+
+shared-slice-read-mate-class : tie.Need-shared-slice-read-mate-class Inv-loop μ-loop
+shared-slice-read-mate-class c = search needs
+
+mate-class-requires : tie.Need-mate-class-requires Inv-loop μ-loop
+mate-class-requires c κs = search needs
+
+returns : tie.Need-returns Inv-loop μ-loop
+returns c =
+    range-fails _ _ _ (c .before .before .before .before .before .before .loop .inv .1) (c .before .before .before .before .before .loop-test .taken) (rw (← c .before .before .before .before .mate-of .ensures, ← c .before .mate-class .ensures) (ne-eqb _ _ (c .if1 .taken)))
+
+add-v : tie.Need-add-v Inv-loop μ-loop
+add-v c = search needs
+
+loop-less : tie.Need-loop-less Inv-loop μ-loop
+loop-less c = search needs
+
+loop-again : tie.Need-loop-again Inv-loop μ-loop
+loop-again c =
+    (omega arith, range-next _ _ _ (c .before .before .before .before .before .before .loop .inv .1) (c .before .before .before .before .before .loop-test .taken) (rw (← c .before .before .before .before .mate-of .ensures, ← c .before .mate-class .ensures) (eq-eqb _ _ (c .if1 .left))))
+
+returns-2 : tie.Need-returns-2 Inv-loop μ-loop
+returns-2 c = range-end _ _ _ (c .before .loop .inv .1) (c .loop-test .left)
+
+pub mates-agree-spec : {M : Type 1} → statement M
+mates-agree-spec =
+    tie.close
+    (tie.spec
+    Inv-loop
+    μ-loop
+    loop-holds
+    mate-of-requires
+    shared-slice-read-if1
+    shared-slice-read-mate-class
+    mate-class-requires
+    returns
+    add-v
+    loop-less
+    loop-again
+    returns-2)

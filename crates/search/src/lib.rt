@@ -1,0 +1,7 @@
+// Skew-symmetric graphs searched, and certificates judged. The caller lends the graph as two tables of bytes, the arcs' tails and heads.
+//   node       mates of nodes and arcs, bytes as indices
+//   path       is a run of arcs the wanted path?
+//   barrier    is a table of classes a barrier?
+mod node;
+pub mod path;
+pub mod barrier;

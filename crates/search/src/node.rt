@@ -1,0 +1,18 @@
+// Nodes and arcs by number.
+ghost use mathlib.Core.Path.{_≡_};
+ghost use Prim.Native.Nat.{_<_};
+ghost use Rattle.skew.specs.Graph.{mate};
+
+pub fn wide(x: u8) -> usize
+    ensures { λ r. ⌜ (r ≡ x) × (r < 256) ⌝ }
+{
+    x as usize
+}
+
+// The mate of a node, or of an arc.
+pub fn mate_of(v: usize) -> usize
+    requires { ⌜ v < 8192 ⌝ }
+    ensures { λ r. ⌜ r ≡ mate v ⌝ }
+{
+    if v % 2 == 0 { v + 1 } else { v - 1 }
+}
