@@ -10,7 +10,7 @@ use lib.ListN.{length}
 use borrow.Author.Tests.{eqb-true, eq-eqb}
 use Rattle.counting.specs.Tests.{any, among, below}
 use Rattle.counting.specs.Lists.{In, Within, Distinct}
-use Rattle.skew.specs.Graph.{Graph, mate, nodes, nodesAlong, reachesFrom, isReachable}
+use Rattle.skew.specs.Graph.{Graph, mate, nodes, nodesAlong, endOf, isRegular, reachesFrom, isReachable}
 use Rattle.skew.specs.Paths.{tail, head, Joins, Unmated, WellFormed}
 use Rattle.skew.specs.Promise.{SomePath, ReachesByPathsIn}
 use Rattle.counting.proofs.Booleans.{and-left, and-right, and-both, or-right, or-cases}
@@ -20,7 +20,7 @@ use Rattle.skew.proofs.Mates.{mate-mate, mate-other}
 use Rattle.skew.proofs.Paths.{regular-path, path-regular, nodes-cons}
 
 -- what the search tries, arc by arc
-abbrev Tried : Graph → (v w : ℕ) → (ss us : List ℕ) → List ℕ → Type 0
+abbrev pub Tried : Graph → (v w : ℕ) → (ss us : List ℕ) → List ℕ → Type 0
 Tried g v w ss us [] = v ≡ w
 Tried g v w ss us (i ∷ is) =
     (i < length (g .arcs)) × (tail g i ≡ v) × (In (head g i) ss → ⊥) × (In (mate i) us → ⊥) ×
@@ -118,6 +118,25 @@ module _ (g : Graph) (w : ℕ) where
       back : {x : ℕ} → x ≡ v → In x (nodesAlong g (head g i) is) → ⊥
       back e m = a .once .0 (subst (λ (k : ℕ). In k (nodesAlong g (head g i) is)) e m)
 
+-- from the source: what was tried is a regular path, and back
+module _ (g : Graph) (w : ℕ) (is : List ℕ) where
+  pub tried-regular : Tried g (g .source) w (g .source ∷ []) [] is → (isRegular g is ≡ true) × (endOf g (g .source) is ≡ w)
+  tried-regular t =
+      let a = tried-avoids g w (g .source) (g .source ∷ []) [] is (inl refl) t in
+      path-regular g (λ (x : ℕ). Unit {0}) w is (record { joins = a .joins; within = λ x m. tt; once = a .once; unmated = a .unmated })
+
+  pub regular-tried : isRegular g is ≡ true → endOf g (g .source) is ≡ w → Tried g (g .source) w (g .source ∷ []) [] is
+  regular-tried r e =
+      let P = regular-path g is r in
+      avoids-tried g w (g .source) (g .source ∷ []) [] is (inl refl)
+      (record {
+        joins = rw e at (P .joins);
+        once = P .once;
+        unmated = P .unmated;
+        fresh = λ x m n. ⊎-elim (λ e. e) (λ b. absurd b) m;
+        unused = λ i m n. n;
+      })
+
 pub nodes-within : (g : Graph) (n a v : ℕ) (p : List ℕ) → ((i : ℕ) → i < length (g .arcs) → head g i < n) → a < n → Joins g a v p →
     Within (λ (x : ℕ). x < n) (nodesAlong g a p)
 unfolding nodesAlong
@@ -136,26 +155,16 @@ reachable-by-paths g wf w = (there, here)
     s = g .source
 
     there : isReachable g w ≡ true → SomePath g w
-    there e =
-        let r = reaches-tried g w (nodes g) (g .source) (g .source ∷ []) [] e in
-        let a = tried-avoids g w (g .source) (g .source ∷ []) [] (r .0) (inl refl) (r .1) in (
-          r .0,
-          path-regular g (λ (x : ℕ). Unit {0}) w (r .0) (record { joins = a .joins; within = λ x m. tt; once = a .once; unmated = a .unmated }),
-        )
+    there e = let r = reaches-tried g w (nodes g) (g .source) (g .source ∷ []) [] e in (r .0, tried-regular g w (r .0) (r .1))
 
     here : SomePath g w → isReachable g w ≡ true
     here k =
         let p = k .0 in
         let P = regular-path g p (k .1 .0) in
-        let j : Joins g (g .source) w p = rw (k .1 .1) at (P .joins) in
         let short : length p ≤ nodes g =
-        omega (arith, length-nodes g (g .source) p, pigeonhole (nodes g) (nodesAlong g (g .source) p) (P .once) (nodes-within g (nodes g) (g .source) w p (wf .head-node) (wf .source-node) j)) in
-        tried-reaches g w (nodes g) (g .source) (g .source ∷ []) [] p short
-        (avoids-tried g w (g .source) (g .source ∷ []) [] p (inl refl)
-        (record {
-          joins = j;
-          once = P .once;
-          unmated = P .unmated;
-          fresh = λ x m n. ⊎-elim (λ e. e) (λ b. absurd b) m;
-          unused = λ i m n. n;
-        }))
+        omega (
+          arith,
+          length-nodes g (g .source) p,
+          pigeonhole (nodes g) (nodesAlong g (g .source) p) (P .once) (nodes-within g (nodes g) (g .source) _ p (wf .head-node) (wf .source-node) (P .joins)),
+        ) in
+        tried-reaches g w (nodes g) (g .source) (g .source ∷ []) [] p short (regular-tried g w p (k .1 .0) (k .1 .1))
