@@ -8,7 +8,7 @@
 --   entered-counted                               judged by counters
 use mathlib.Core.Path.{_≡_, refl, sym, ap, _∙_}
 use mathlib.Core.Logic.{_≢_, ⊎-elim}
-use mathlib.Core.Bool.{Bool, true, false, _&&_, _||_, not}
+use mathlib.Core.Bool.{true, false, _&&_, _||_, not}
 use mathlib.Core.List.{List, [], _∷_}
 use Prim.Native.Nat.{ℕ, zero, suc, _+_, _-_, _≤_, _<_}
 use native.Mathlib.Numerals.{add-one}
@@ -23,7 +23,8 @@ use Rattle.counting.proofs.Booleans.{by-test, same-or}
 use Rattle.counting.proofs.Range.{length-up, in-up}
 use Rattle.skew.specs.Graph.{classAt, isXM, largestOf, arcFits, entriesInto}
 use Rattle.search.specs.Table.{arcsOf}
-use Rattle.search.specs.Classes.{classesFit, enteredOnce, allEntered, Counting}
+use Rattle.skew.specs.Barrier.{classesFit}
+use Rattle.search.specs.Classes.{enteredOnce, allEntered, Counting}
 use Rattle.search.proofs.Judging.{all-same, Judged, judged-next, judged-fails, judged-end, range-next, range-fails, range-end}
 use Rattle.search.proofs.Tables.{arcs-length, arcs-at}
 

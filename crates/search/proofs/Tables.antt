@@ -1,14 +1,23 @@
 -- The arc table as a list of arcs. Assumes nothing.
---   arcs-length          as many arcs as tails
---   arcs-at              the arc of a number, by its tail and head
-use mathlib.Core.Path.{_≡_, refl, ap, _∙_}
+--   arcs-length                   as many arcs as tails
+--   arcs-at                       the arc of a number, by its tail and head
+--   tail-is, head-is              an arc's ends
+--   tail-node, head-node          they are nodes
+--   arc-in, in-arcs               arc numbers, by the table's length
+--   table-covers                  each end of each arc is below the number of nodes
+use mathlib.Core.Path.{_≡_, refl, sym, ap, _∙_}
 use mathlib.Core.List.{List, [], _∷_}
-use Prim.Native.Nat.{ℕ, zero, suc, _+_, _<_}
+use Prim.Native.Nat.{ℕ, zero, suc, _+_, _*_, _<_}
 use native.Mathlib.Omega.{arith}
 use lib.ListN.{length, getD, drop}
 use lib.Seq.{getD-drop}
-use Rattle.counting.specs.Pairs.{pair, noPair}
-use Rattle.search.specs.Table.{arcsOf}
+use Rattle.counting.specs.Pairs.{Pair, pair, noPair}
+use Rattle.skew.specs.Graph.{Graph, mate, nodes}
+use Rattle.skew.specs.Paths.{tail, head}
+use Rattle.skew.proofs.Mates.{mate-mate, mate-below}
+use Rattle.skew.proofs.Paths.{mate-arc}
+use Rattle.search.specs.Table.{arcsOf, graphOf, ArcTable}
+use Rattle.search.specs.Classes.{Covers}
 
 pub arcs-length : (ts hs : List ℕ) → length (arcsOf ts hs) ≡ length ts
 unfolding arcsOf
@@ -22,3 +31,33 @@ arcs-at (t ∷ ts) hs zero h = refl
 arcs-at (t ∷ ts) hs (suc i) h =
     let e : 1 + i ≡ suc i = omega arith in
     arcs-at ts (drop 1 hs) i (omega arith) ∙ ap (λ (x : ℕ). pair (getD ts i 0) x) (getD-drop 1 hs i 0 ∙ ap (λ (m : ℕ). getD hs m 0) e)
+
+module _ (n s : ℕ) (ts hs : List ℕ) where
+  abbrev g : Graph
+  g = graphOf n s ts hs
+
+  pub tail-is : (i : ℕ) → i < length ts → tail g i ≡ getD ts i 0
+  tail-is i h = ap (λ (x : Pair). x .first) (arcs-at ts hs i h)
+
+  pub head-is : (i : ℕ) → i < length ts → head g i ≡ getD hs i 0
+  head-is i h = ap (λ (x : Pair). x .second) (arcs-at ts hs i h)
+
+  pub arc-in : (i : ℕ) → i < length ts → i < length (g .arcs)
+  arc-in i h = omega (arith, arcs-length ts hs)
+
+  pub in-arcs : (i : ℕ) → i < length (g .arcs) → i < length ts
+  in-arcs i h = omega (arith, arcs-length ts hs)
+
+  module _ (T : ArcTable n s ts hs) where
+    pub head-node : (i : ℕ) → i < length ts → getD hs i 0 < 2 * n
+    head-node i h = rw (head-is i h) at (T .well-formed .head-node i (arc-in i h))
+
+    -- a tail is the mate of the head of the arc's mate
+    pub tail-node : (i : ℕ) → i < length ts → getD ts i 0 < 2 * n
+    tail-node i h =
+        let m = mate-arc g (T .well-formed .symmetric) i (arc-in i h) in
+        let e : tail g i ≡ mate (head g (mate i)) = sym (ap (λ (z : ℕ). mate z) (m .2) ∙ mate-mate (tail g i)) in
+        rw (← tail-is i h, e) (mate-below (head g (mate i)) (nodes g) (omega arith) (T .well-formed .head-node (mate i) (m .0)))
+
+    pub table-covers : Covers ts hs (2 * n)
+    table-covers = record { same = T .as-long; tails = tail-node; heads = head-node }

@@ -1,26 +1,22 @@
 -- A table of classes judged class by class (document 01, "The barrier").
 --   Covers ts hs n            each end of each arc is below n
---   classesFit a b            may an arc go from class a to class b? (arcFits, by the two classes)
 --   enteredOnce es c          the counter of class c is 1, if c is an Xi
 --   allEntered es top         the same for each class up to top
 --   Counting cs xs es i       the counters es hold the entries of the first i arcs of xs
 use mathlib.Core.Path.{_≡_}
-use mathlib.Core.Bool.{Bool, _&&_, _||_, not}
+use mathlib.Core.Bool.{Bool, _||_}
 use mathlib.Core.List.{List}
 use Prim.Native.Nat.{ℕ, suc, _+_, _<_}
 use lib.Dec.{ltb, eqb}
 use lib.ListN.{length, getD, drop}
 use Rattle.counting.specs.Tests.{all, below}
 use Rattle.counting.specs.Pairs.{Pair}
-use Rattle.skew.specs.Graph.{isXM, entriesInto}
+use Rattle.skew.specs.Graph.{entriesInto}
 
 pub record Covers (ts hs : List ℕ) (n : ℕ) : Type 0 where
   pub same : length hs ≡ length ts
   pub tails : (i : ℕ) → i < length ts → getD ts i 0 < n
   pub heads : (i : ℕ) → i < length ts → getD hs i 0 < n
-
-abbrev pub classesFit : (from into : ℕ) → Bool
-classesFit a b = not (isXM a && isXM b && not (eqb a b)) && not (eqb a 1 && (eqb b 2 || eqb b 0))
 
 abbrev pub enteredOnce : (entries : List ℕ) (class : ℕ) → Bool
 enteredOnce es c = ltb c 3 || eqb (getD es c 0) 1

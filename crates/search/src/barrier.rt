@@ -1,14 +1,14 @@
 // Is a table of classes a barrier? (document 01, "The barrier"; document 03, isBarrier)
 ghost use mathlib.Core.Path.{_≡_};
-ghost use Prim.Native.Nat.{ℕ, suc, _*_, _%_, _≤_, _<_};
-ghost use lib.Dec.{ltb, eqb};
-ghost use mathlib.Core.Bool.{_||_};
+ghost use Prim.Native.Nat.{ℕ, _*_, _%_, _≤_, _<_};
 ghost use lib.ListN.{length, getD};
 ghost use Rattle.counting.specs.Tests.{all, below};
 ghost use Rattle.skew.specs.Graph.{mateClass, matesAgree, largestOf, arcFits, entriesInto, isBarrier};
-ghost use Rattle.search.specs.Table.{arcsOf, graphOf, Lent};
-ghost use Rattle.search.specs.Classes.{Covers, classesFit, allEntered};
-use crate::node::{wide, mate_of};
+ghost use Rattle.search.specs.Table.{arcsOf, graphOf, ArcTable};
+ghost use Rattle.skew.specs.Barrier.{classesFit};
+ghost use Rattle.search.specs.Classes.{Covers, allEntered};
+use crate::node::mate_of;
+use crate::node::wide;
 
 // The class of the mate of a node of this class.
 fn mate_class(c: u8) -> u8
@@ -125,14 +125,8 @@ fn all_entered(top: u8, entries: &[u16; 256]) -> bool
     true
 }
 
-pub fn is_barrier(
-    pairs: usize,
-    source: usize,
-    tails: &[u8],
-    heads: &[u8],
-    classes: &[u8],
-) -> bool
-    requires { ⌜ Lent pairs source (now tails) (now heads) ⌝ }
+pub fn is_barrier(pairs: usize, source: usize, tails: &[u8], heads: &[u8], classes: &[u8]) -> bool
+    requires { ⌜ ArcTable pairs source (now tails) (now heads) ⌝ }
     ensures { λ r. ⌜ r ≡ isBarrier (graphOf pairs source (now (tails .entry)) (now (heads .entry))) (now (classes .entry)) ⌝ }
 {
     if classes.len() != 2 * pairs {

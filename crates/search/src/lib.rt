@@ -2,6 +2,6 @@
 //   node       mates of nodes and arcs, bytes as indices
 //   path       is a run of arcs the wanted path?
 //   barrier    is a table of classes a barrier?
+pub mod barrier;
 mod node;
 pub mod path;
-pub mod barrier;

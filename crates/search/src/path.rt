@@ -3,18 +3,13 @@ ghost use mathlib.Core.Path.{_≡_};
 ghost use Prim.Native.Nat.{ℕ, _<_};
 ghost use lib.ListN.{length, getD};
 ghost use Rattle.skew.specs.Graph.{isWanted};
-ghost use Rattle.search.specs.Table.{graphOf, Lent};
-use crate::node::{wide, mate_of};
+ghost use Rattle.search.specs.Table.{graphOf, ArcTable};
+use crate::node::mate_of;
+use crate::node::wide;
 
 // Each arc starts where the one before ended, at a node not seen before, and its mate was not used. Mates are told by their numbers.
-pub fn is_wanted(
-    pairs: usize,
-    source: usize,
-    tails: &[u8],
-    heads: &[u8],
-    path: &[u16],
-) -> bool
-    requires { ⌜ Lent pairs source (now tails) (now heads) ⌝ }
+pub fn is_wanted(pairs: usize, source: usize, tails: &[u8], heads: &[u8], path: &[u16]) -> bool
+    requires { ⌜ ArcTable pairs source (now tails) (now heads) ⌝ }
     requires { ⌜ ((k : ℕ) → k < length (now path) → getD (now path) k 0 < length (now tails)) ⌝ }
     ensures { λ r. ⌜ r ≡ isWanted (graphOf pairs source (now (tails .entry)) (now (heads .entry))) (now (path .entry)) ⌝ }
 {

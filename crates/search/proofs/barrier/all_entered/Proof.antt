@@ -1,5 +1,5 @@
 -- The classes before c passed. Assumes nothing.
-use mathlib.Core.Path.{_≡_, refl, sym, _∙_}
+use mathlib.Core.Path.{_≡_}
 use Prim.Native.Nat.{suc, _≤_, _-_}
 use native.Mathlib.Omega.{arith}
 use Rattle.counting.specs.Tests.{below}
@@ -8,9 +8,6 @@ use Rattle.search.proofs.Judging.{Judged}
 use Rattle.search.proofs.Classes.{entered-start, entered-next, entered-fails, entered-end}
 use Rattle.search.proofs.barrier.all_entered.Statement.{statement}
 use Rattle.search.proofs.barrier.all_entered.Tie as tie
-use Rattle.search.proofs.barrier.all_entered.Reads as reads
-use Rattle.search.proofs.barrier.all_entered.Lts as lts
-use Rattle.search.proofs.node.wide.Reads as wide-reads
 use borrow.Author.Needs.{needs}
 
 abbrev Inv-loop : tie.InvT-loop

@@ -1,5 +1,5 @@
 -- The arcs before i passed. Assumes nothing.
-use mathlib.Core.Path.{_≡_, refl, sym, _∙_}
+use mathlib.Core.Path.{refl}
 use Prim.Native.Nat.{_≤_, _-_}
 use native.Mathlib.Omega.{arith}
 use lib.ListN.{length}
@@ -10,10 +10,6 @@ use Rattle.search.proofs.Judging.{Judged}
 use Rattle.search.proofs.Classes.{arcs-next, arcs-fail, arcs-end}
 use Rattle.search.proofs.barrier.arcs_fit.Statement.{statement}
 use Rattle.search.proofs.barrier.arcs_fit.Tie as tie
-use Rattle.search.proofs.barrier.arcs_fit.Reads as reads
-use Rattle.search.proofs.barrier.arcs_fit.Lts as lts
-use Rattle.search.proofs.barrier.classes_fit.Reads as classes-fit-reads
-use Rattle.search.proofs.node.wide.Reads as wide-reads
 use borrow.Author.Needs.{needs}
 
 abbrev Inv-loop : tie.InvT-loop

@@ -3,8 +3,6 @@ use mathlib.Core.Path.{sym}
 use Rattle.search.proofs.Classes.{fit-same, fit-from-a, fit-into-a, fit-else}
 use Rattle.search.proofs.barrier.classes_fit.Statement.{statement}
 use Rattle.search.proofs.barrier.classes_fit.Tie as tie
-use Rattle.search.proofs.barrier.classes_fit.Reads as reads
-use Rattle.search.proofs.barrier.classes_fit.Lts as lts
 
 returns : tie.Need-returns
 returns c = sym (fit-same _ _ (c .if1 .taken))

@@ -1,5 +1,5 @@
 -- The counters hold the entries of the arcs before i. Assumes nothing.
-use mathlib.Core.Path.{refl, sym}
+use mathlib.Core.Path.{sym}
 use mathlib.Core.Logic.{⊎-elim}
 use Prim.Native.Nat.{_≤_, _-_}
 use native.Mathlib.Omega.{arith}
@@ -9,9 +9,6 @@ use Rattle.search.specs.Classes.{Counting}
 use Rattle.search.proofs.Classes.{counting-start, counting-enters, counting-passes, counting-end, counting-small}
 use Rattle.search.proofs.barrier.count_entries.Statement.{statement}
 use Rattle.search.proofs.barrier.count_entries.Tie as tie
-use Rattle.search.proofs.barrier.count_entries.Reads as reads
-use Rattle.search.proofs.barrier.count_entries.Lts as lts
-use Rattle.search.proofs.node.wide.Reads as wide-reads
 use borrow.Author.Needs.{needs}
 
 abbrev Inv-loop : tie.InvT-loop
@@ -67,11 +64,13 @@ loop-less : tie.Need-loop-less Inv-loop μ-loop
 loop-less c = search needs
 
 loop-again : tie.Need-loop-again Inv-loop μ-loop
-loop-again c =
-    (omega arith, ⊎-elim
-    (λ w. rw (w .3) (counting-enters (c .before .before .before .before .before .before .before .before .before .before .before .args .classes .now) (c .before .before .before .before .before .before .before .before .before .before .before .args .tails .now) (c .before .before .before .before .before .before .before .before .before .before .before .args .heads .now) _ _ (c .before .before .before .before .before .before .before .loop .inv .1) (c .before .before .before .before .before .before .loop-test .taken) (w .2 .result) (w .2 .ensures .1) (rw (← c .before .before .before .before .wide .ensures .0) (w .0 .taken)) (rw (← c .before .before .wide2 .ensures .0) (sym (w .2 .ensures .0)))))
-    (λ w. rw (w .1) (counting-passes (c .before .before .before .before .before .before .before .before .before .before .before .args .classes .now) (c .before .before .before .before .before .before .before .before .before .before .before .args .tails .now) (c .before .before .before .before .before .before .before .before .before .before .before .args .heads .now) _ _ (c .before .before .before .before .before .before .before .loop .inv .1) (c .before .before .before .before .before .before .loop-test .taken) (rw (← c .before .before .before .before .wide .ensures .0) (w .0 .left))))
-    (c .if1 .came))
+loop-again c = (
+  omega arith,
+  ⊎-elim
+      (λ w. rw (w .3) (counting-enters (c .before .before .before .before .before .before .before .before .before .before .before .args .classes .now) (c .before .before .before .before .before .before .before .before .before .before .before .args .tails .now) (c .before .before .before .before .before .before .before .before .before .before .before .args .heads .now) _ _ (c .before .before .before .before .before .before .before .loop .inv .1) (c .before .before .before .before .before .before .loop-test .taken) (w .2 .result) (w .2 .ensures .1) (rw (← c .before .before .before .before .wide .ensures .0) (w .0 .taken)) (rw (← c .before .before .wide2 .ensures .0) (sym (w .2 .ensures .0)))))
+      (λ w. rw (w .1) (counting-passes (c .before .before .before .before .before .before .before .before .before .before .before .args .classes .now) (c .before .before .before .before .before .before .before .before .before .before .before .args .tails .now) (c .before .before .before .before .before .before .before .before .before .before .before .args .heads .now) _ _ (c .before .before .before .before .before .before .before .loop .inv .1) (c .before .before .before .before .before .before .loop-test .taken) (rw (← c .before .before .before .before .wide .ensures .0) (w .0 .left))))
+      (c .if1 .came),
+)
 
 returns : tie.Need-returns Inv-loop μ-loop
 returns c =

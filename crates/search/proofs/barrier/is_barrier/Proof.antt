@@ -1,20 +1,14 @@
 -- Each question of `isBarrier` in turn; the last by the counters. Assumes nothing.
 use Prim.Native.Nat.{_*_}
-use mathlib.Core.Path.{sym, _∙_}
+use mathlib.Core.Path.{_∙_}
 use native.Mathlib.Omega.{arith}
 use lib.ListN.{length, getD}
 use borrow.Author.Tests.{eq-eqb, ne-eqb, not-true, not-false}
+use Rattle.search.proofs.Tables.{table-covers}
 use Rattle.search.proofs.Classes.{entered-counted}
 use borrow.Author.Needs.{needs}
 use Rattle.search.proofs.barrier.is_barrier.Statement.{statement}
 use Rattle.search.proofs.barrier.is_barrier.Tie as tie
-use Rattle.search.proofs.barrier.is_barrier.Reads as reads
-use Rattle.search.proofs.barrier.is_barrier.Lts as lts
-use Rattle.search.proofs.barrier.all_entered.Reads as all-entered-reads
-use Rattle.search.proofs.barrier.arcs_fit.Reads as arcs-fit-reads
-use Rattle.search.proofs.barrier.count_entries.Reads as count-entries-reads
-use Rattle.search.proofs.barrier.largest.Reads as largest-reads
-use Rattle.search.proofs.barrier.mates_agree.Reads as mates-agree-reads
 
 mul-if1 : tie.Need-mul-if1
 mul-if1 c = search needs
@@ -24,7 +18,7 @@ returns c =
     rw (ne-eqb (length (c .before .before .before .before .args .classes .now)) (2 * c .before .before .before .before .args .pairs) (c .if1 .taken))
 
 shared-slice-read-if2 : tie.Need-shared-slice-read-if2
-shared-slice-read-if2 c = search needs
+shared-slice-read-if2 c = omega (arith, c .before .before .before .before .before .pre .well-formed .source-node)
 
 returns-2 : tie.Need-returns-2
 returns-2 c =
@@ -39,7 +33,7 @@ returns-3 c =
 
 arcs-fit-requires : tie.Need-arcs-fit-requires
 arcs-fit-requires c κs =
-    rw (c .before .before .before .before .if1 .left) (record { same = c .before .before .before .before .before .before .before .before .pre .same; tails = c .before .before .before .before .before .before .before .before .pre .tails-low; heads = c .before .before .before .before .before .before .before .before .pre .heads-low })
+    rw (c .before .before .before .before .if1 .left) (table-covers _ _ _ _ (c .before .before .before .before .before .before .before .before .pre))
 
 returns-4 : tie.Need-returns-4
 returns-4 c =
@@ -47,7 +41,7 @@ returns-4 c =
 
 count-entries-requires : tie.Need-count-entries-requires
 count-entries-requires c κs =
-    (rw (c .before .before .before .before .before .before .if1 .left) (record { same = c .before .before .before .before .before .before .before .before .before .before .pre .same; tails = c .before .before .before .before .before .before .before .before .before .before .pre .tails-low; heads = c .before .before .before .before .before .before .before .before .before .before .pre .heads-low }), c .before .before .before .before .before .before .before .before .before .before .pre .arcs-few)
+    (rw (c .before .before .before .before .before .before .if1 .left) (table-covers _ _ _ _ (c .before .before .before .before .before .before .before .before .before .before .pre)), c .before .before .before .before .before .before .before .before .before .before .pre .arcs-few)
 
 largest-requires : tie.Need-largest-requires
 largest-requires c κs = search needs

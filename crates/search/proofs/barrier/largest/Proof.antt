@@ -7,8 +7,6 @@ use Rattle.skew.specs.Graph.{largestOf}
 use Rattle.search.proofs.Classes.{largest-none, largest-more, largest-same}
 use Rattle.search.proofs.barrier.largest.Statement.{statement}
 use Rattle.search.proofs.barrier.largest.Tie as tie
-use Rattle.search.proofs.barrier.largest.Reads as reads
-use Rattle.search.proofs.barrier.largest.Lts as lts
 use borrow.Author.Needs.{needs}
 
 abbrev Inv-loop : tie.InvT-loop

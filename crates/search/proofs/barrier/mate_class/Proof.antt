@@ -2,8 +2,6 @@
 use borrow.Author.Tests.{eq-eqb, ne-eqb}
 use Rattle.search.proofs.barrier.mate_class.Statement.{statement}
 use Rattle.search.proofs.barrier.mate_class.Tie as tie
-use Rattle.search.proofs.barrier.mate_class.Reads as reads
-use Rattle.search.proofs.barrier.mate_class.Lts as lts
 
 returns : tie.Need-returns
 returns c = rw (eq-eqb (c .before .args .c) 1 (c .if1 .taken))

@@ -1,8 +1,8 @@
 -- The nodes before v passed. Assumes nothing.
-use mathlib.Core.Path.{_≡_, refl, sym, ap, _∙_}
+use mathlib.Core.Path.{refl}
 use Prim.Native.Nat.{_≤_, _-_}
 use native.Mathlib.Omega.{arith}
-use lib.ListN.{length, getD}
+use lib.ListN.{length}
 use borrow.Author.Tests.{eq-eqb, ne-eqb}
 use Rattle.counting.specs.Tests.{below}
 use Rattle.skew.specs.Graph.{matesAgree}
@@ -10,10 +10,6 @@ use Rattle.skew.proofs.Mates.{mate-below}
 use Rattle.search.proofs.Judging.{Judged, range-next, range-fails, range-end}
 use Rattle.search.proofs.barrier.mates_agree.Statement.{statement}
 use Rattle.search.proofs.barrier.mates_agree.Tie as tie
-use Rattle.search.proofs.barrier.mates_agree.Reads as reads
-use Rattle.search.proofs.barrier.mates_agree.Lts as lts
-use Rattle.search.proofs.barrier.mate_class.Reads as mate-class-reads
-use Rattle.search.proofs.node.mate_of.Reads as mate-of-reads
 use borrow.Author.Needs.{needs}
 
 abbrev Inv-loop : tie.InvT-loop

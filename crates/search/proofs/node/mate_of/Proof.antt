@@ -4,8 +4,6 @@ use borrow.Author.Tests.{eq-eqb, ne-eqb}
 use borrow.Author.Needs.{needs}
 use Rattle.search.proofs.node.mate_of.Statement.{statement}
 use Rattle.search.proofs.node.mate_of.Tie as tie
-use Rattle.search.proofs.node.mate_of.Reads as reads
-use Rattle.search.proofs.node.mate_of.Lts as lts
 
 add-result : tie.Need-add-result
 add-result c = search needs
