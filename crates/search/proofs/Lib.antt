@@ -1,9 +1,19 @@
 -- Laws, by subject.
---   Judging    tests of each element of a list, judged by a loop
---   Tables     the arc table as a list of arcs
---   Classes    classes between which an arc may go, entries counted
---   Walks      runs of arcs judged arc by arc
+--   Judging      tests of each element of a list, judged by a loop
+--   Tables       the arc table as a list of arcs
+--   Classes      classes between which an arc may go, entries counted
+--   Walks        runs of arcs judged arc by arc
+--   Maps         lists mapped in place
+--   States       the tables as a state
+--   TreeSteps    the tree step on the tables
+--   Ascents      the ascent from the ends of an arc
+--   BudSteps     the bud step on the tables
 pub mod Judging
 pub mod Tables
 pub mod Classes
 pub mod Walks
+pub mod Maps
+pub mod States
+pub mod TreeSteps
+pub mod Ascents
+pub mod BudSteps

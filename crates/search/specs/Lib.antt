@@ -1,7 +1,11 @@
--- What the lent tables hold.
+-- What the lent tables hold, and what each function is given and leaves.
 --   Table      the arc table, and its graph
 --   Classes    a table of classes, judged class by class
 --   Walks      a run of arcs, judged arc by arc
+--   State      the state of a search
+--   Steps      tree step and bud step
 pub mod Table
 pub mod Classes
 pub mod Walks
+pub mod State
+pub mod Steps

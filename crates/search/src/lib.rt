@@ -2,6 +2,8 @@
 //   node       mates of nodes and arcs, bytes as indices
 //   path       is a run of arcs the wanted path?
 //   barrier    is a table of classes a barrier?
+//   steps      tree step and bud step
 pub mod barrier;
 mod node;
 pub mod path;
+mod steps;
