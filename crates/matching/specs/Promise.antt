@@ -1,0 +1,48 @@
+-- What is promised of every stock that questions 9 and 11 to 14 accept (document 01, "Questions put to a call"; document 03's promises, over stocks
+-- instead of files). Each promise is a type; a proof of the type is the theorem. Assumes nothing.
+--   WellFormedStock      what those questions settle
+--   GreatestIs           the greatest number of pairs is the most that a pairing has, and some plan exists
+--   MarksAre             a mark, by largest pairings
+use mathlib.Core.Path.{_≡_}
+use mathlib.Core.Logic.{_↔_}
+use mathlib.Core.Bool.{Bool, true, false, _&&_, _||_}
+use mathlib.Core.List.{List}
+use Prim.Native.Nat.{ℕ, _≤_, _<_}
+use lib.Dec.{ltb, eqb}
+use lib.ListN.{length}
+use Rattle.counting.specs.Tests.{all, any}
+use Rattle.counting.specs.Pairs.{Pair}
+use Rattle.matching.specs.Stock.{Stock, hasPair, noneShared, isIncluded, isPairing, greatest, markOf, pairsRise, isPlan}
+
+abbrev pub pairNamed : (cameras : ℕ) → Pair → Bool
+pairNamed n x = ltb (x .first) n && ltb (x .second) n
+
+pub record WellFormedStock (s : Stock) : Type 0 where
+  pub named : all (pairNamed (s .cameras)) (s .fits) ≡ true
+  pub rising : pairsRise (s .fits) ≡ true
+  pub litRising : pairsRise (s .lit) ≡ true
+  pub litFits : all (hasPair (s .fits)) (s .lit) ≡ true
+  pub litApart : noneShared (s .lit) ≡ true
+
+abbrev pub GreatestIs : Type 0
+GreatestIs =
+    (s : Stock) (ps : List Pair) → WellFormedStock s →
+    (isPairing (s .fits) ps ≡ true → length ps ≤ greatest (s .fits)) ×
+    ((qs : List Pair) × ((isPairing (s .fits) qs ≡ true) × (length qs ≡ greatest (s .fits)))) ×
+    ((qs : List Pair) × (isPlan s qs ≡ true))
+
+abbrev pub LeftBySome : (fits : List Pair) → (camera : ℕ) → Type 0
+LeftBySome fs u =
+    (ps : List Pair) × ((isPairing fs ps ≡ true) × (length ps ≡ greatest fs) × (isIncluded ps u ≡ false))
+
+abbrev pub joins : (one other : ℕ) → Pair → Bool
+joins u v x = (eqb (x .first) u && eqb (x .second) v) || (eqb (x .first) v && eqb (x .second) u)
+
+abbrev pub FitsSomeLeft : (fits : List Pair) → (camera : ℕ) → Type 0
+FitsSomeLeft fs u = (v : ℕ) × ((any (joins u v) fs ≡ true) × LeftBySome fs v)
+
+abbrev pub MarksAre : Type 0
+MarksAre =
+    (s : Stock) (u : ℕ) → WellFormedStock s → u < s .cameras →
+    ((markOf (s .fits) u ≡ 0) ↔ LeftBySome (s .fits) u) ×
+    ((markOf (s .fits) u ≡ 1) ↔ ((LeftBySome (s .fits) u → true ≡ false) × FitsSomeLeft (s .fits) u))
