@@ -1,9 +1,11 @@
 -- Laws of the theory, by subject; each file stands on those above it.
---   Pairs        lists of pairs, their ends, and the tests of Stock
---   Rising       rising lists of pairs
---   Matchings    pairings as involutions and as lists, both ways, with lengths
---   Greatest     the greatest number of pairs and the cameras left over, by all pairings
+--   Pairs           lists of pairs, their ends, and the tests of Stock
+--   Rising          rising lists of pairs
+--   Matchings       pairings as involutions and as lists, both ways, with lengths
+--   Greatest        the greatest number of pairs and the cameras left over, by all pairings
+--   Certificates    what a certificate gives for every pairing, by counting
 pub mod Pairs
 pub mod Rising
 pub mod Matchings
 pub mod Greatest
+pub mod Certificates
