@@ -4,8 +4,10 @@
 --   Matchings       pairings as involutions and as lists, both ways, with lengths
 --   Greatest        the greatest number of pairs and the cameras left over, by all pairings
 --   Certificates    what a certificate gives for every pairing, by counting
+--   Rotations       one rotation of a matching
 pub mod Pairs
 pub mod Rising
 pub mod Matchings
 pub mod Greatest
 pub mod Certificates
+pub mod Rotations

@@ -3,9 +3,11 @@
 --   Pairs          lists of pairs: ends, rising
 --   Matching       pairings as involutions
 --   Certificate    the Gallai-Edmonds decomposition
+--   Rotation       rotation of a matching, and along a path
 --   Promise        what is promised of every well-formed stock
 pub mod Stock
 pub mod Pairs
 pub mod Matching
 pub mod Certificate
+pub mod Rotation
 pub mod Promise
