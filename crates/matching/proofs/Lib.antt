@@ -5,9 +5,13 @@
 --   Greatest        the greatest number of pairs and the cameras left over, by all pairings
 --   Certificates    what a certificate gives for every pairing, by counting
 --   Rotations       one rotation of a matching
+--   InOrder         the pairs of a matching camera by camera
+--   Marks           marks by largest pairings
 pub mod Pairs
 pub mod Rising
 pub mod Matchings
 pub mod Greatest
 pub mod Certificates
 pub mod Rotations
+pub mod InOrder
+pub mod Marks
