@@ -1,13 +1,14 @@
 -- Membership in a list, and the tests that say the same. Assumes nothing.
 --   in-left, in-right, in-append      in xs ++ ys exactly if in xs or in ys
 --   in-split, in-middle               an element cuts its list in two; a list with one element more
+--   in-getD, getD-in                  an element stands at some index, and what stands there is one
 --   any-some, some-any                any f xs: some element has f
 --   all-each, each-all                all f xs: each element has f
 --   all-getD, getD-all                the same by index
 --   any-getD, getD-any                and any f xs by index
 --   among-in, in-among                among x xs: x is an element
 --   not-among-out, out-not-among      and where it is not
-use mathlib.Core.Path.{_≡_, refl, ap}
+use mathlib.Core.Path.{_≡_, refl, sym, ap}
 use mathlib.Core.Logic.{_⊎_, inl, inr, ⊎-elim}
 use mathlib.Core.Bool.{Bool, true, not}
 use mathlib.Core.List.{List, [], _∷_, _++_}
@@ -42,6 +43,16 @@ in-split {A = A} x (y ∷ ys) (inr m) = let r = in-split x ys m in (y ∷ r .0, 
 
 pub in-middle : {A : Type 0} (y z : A) (ls rs : List A) → In z (ls ++ rs) → In z (ls ++ y ∷ rs)
 in-middle y z ls rs m = ⊎-elim (in-left z ls (y ∷ rs)) (λ k. in-right z ls (y ∷ rs) (inr k)) (in-append z ls rs m)
+
+pub in-getD : {A : Type 0} (x : A) (xs : List A) (d : A) → In x xs → (i : ℕ) × (i < length xs) × (getD xs i d ≡ x)
+in-getD x [] d m = absurd m
+in-getD x (y ∷ ys) d (inl e) = (0, omega arith, sym e)
+in-getD x (y ∷ ys) d (inr m) = let r = in-getD x ys d m in (suc (r .0), omega (arith, r .1), r .2)
+
+pub getD-in : {A : Type 0} (xs : List A) (d : A) (i : ℕ) → i < length xs → In (getD xs i d) xs
+getD-in [] d i h = absurd (omega arith)
+getD-in (x ∷ xs) d zero h = inl refl
+getD-in (x ∷ xs) d (suc i) h = inr (getD-in xs d i (omega arith))
 
 -- SOME AND EACH
 pub any-some : {A : Type 0} (f : A → Bool) (xs : List A) → any f xs ≡ true → (x : A) × In x xs × (f x ≡ true)
