@@ -19,7 +19,7 @@ use borrow.Author.Tests.{eqb-true, eqb-false, eq-eqb, ne-eqb, not-true}
 use Rattle.counting.specs.Tests.{any, below, keep}
 use Rattle.counting.specs.Lists.{In, Distinct, find}
 use Rattle.counting.specs.Pairs.{Pair}
-use Rattle.counting.proofs.Booleans.{and-two, and-three, and-both, or-right, or-cases, by-test, true-false, same-or}
+use Rattle.counting.proofs.Booleans.{and-two, and-three, and-both, or-right, or-cases, or-false-left, or-false-right, by-test, true-false, same-or}
 use Rattle.counting.proofs.Membership.{any-some, some-any}
 use Rattle.counting.proofs.Kept.{in-keep, keep-in, keep-distinct, keep-or, found}
 use Rattle.counting.proofs.Pigeonhole.{distinct-within, injection, keep-le, keep-same}
@@ -28,10 +28,6 @@ use Rattle.counting.proofs.Involutions.{even}
 use Rattle.matching.specs.Matching.{FitsBelow, Matching, isUnlit, unlit}
 use Rattle.matching.specs.Certificate.{Certificate, those, isRepresentative, isLeftOuter, isLeftOrInner}
 use Rattle.matching.proofs.Matchings.{fits-low, matching-low, matching-injective}
-
-or-neither : (a b : Bool) → (a || b) ≡ false → (a ≡ false) × (b ≡ false)
-or-neither true b e = true-false refl e
-or-neither false b e = (refl, e)
 
 -- CAMERAS THAT PASS A TEST
 module _ (n : ℕ) (f : ℕ → Bool) where
@@ -132,11 +128,11 @@ module _ (n : ℕ) (fs : List Pair) (F : FitsBelow n fs) (p : ℕ → ℕ) (M : 
     group-even : (r : ℕ) → ((k : ℕ) → In k (those n (inGroup r)) → isExposed k ≡ false) → length (those n (inGroup r)) % 2 ≡ 0
     group-even r none =
         let G = those n (inGroup r) in
-        let ne : (k : ℕ) → In k G → q k ≢ k = λ k m. eqb-false _ _ (or-neither (isUnlit q k) (A (q k)) (none k m) .0) in
+        let ne : (k : ℕ) → In k G → q k ≢ k = λ k m. eqb-false _ _ (or-false-left (isUnlit q k) (A (q k)) (none k m)) in
         let closed : (k : ℕ) → In k G → In (q k) G = λ k m.
         let b = group-of r k m in
         let f = Q .fit k (ne k m) in
-        ⊎-elim (λ z. true-false z (or-neither (isUnlit q k) (A (q k)) (none k m) .1))
+        ⊎-elim (λ z. true-false z (or-false-right (isUnlit q k) (A (q k)) (none k m)))
         (λ z. of-group r (q k) (fits-low n fs F k (q k) f .1) (z .0) (sym (z .1) ∙ b .2)) (C .fits k (q k) f (b .1)) in
         even q G (those-distinct n (inGroup r)) closed (Q .back) ne
 
