@@ -24,7 +24,7 @@ use Rattle.skew.proofs.Classes.{fit-X-X, fit-X-A, fit-X-A′, fit-A-X, 
 use Rattle.skew.proofs.Canonical.{reachable-is, BothReached, both-mate, bud-arc, root, root-stop, rootOf, arc-root, part-number-same, part-number-root, part-number-find, root-last}
 
 -- LISTS
-classes-at : (g : Graph) (a n i : ℕ) → i < n → getD (classesFrom g (upFrom a n)) i 0 ≡ classOf g (a + i)
+pub classes-at : (g : Graph) (a n i : ℕ) → i < n → getD (classesFrom g (upFrom a n)) i 0 ≡ classOf g (a + i)
 unfolding classesFrom upFrom
 classes-at g a zero i h = absurd (omega arith)
 classes-at g a (suc n) zero h = ap (λ (z : ℕ). classOf g z) (omega arith)

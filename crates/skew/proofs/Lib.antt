@@ -22,3 +22,5 @@ pub mod Parts
 pub mod Canonical
 pub mod Barrier
 pub mod Promise
+pub mod AlongPaths
+pub mod Entries

@@ -1,0 +1,48 @@
+-- The doubled table of a matching p (document 01, "Stocks"; document 001, section 2.1): camera k is nodes 2k and 2k+1, the source is 2n. First, for
+-- each camera in turn, what p says of it; then the fits outside the pairing. Each arc is followed by its mate.
+--   cameraArcs n p ks rest     a camera: from the source if it is unlit; to its partner if that is the larger
+--   fitArcs p fs               a fit that is not lit: both ways round
+--   doubledTable n fs p        the graph
+--   Arc n fs p x               x is an arc of one of the four kinds
+--   ArcBetween g v w           some arc of g goes from v to w
+--   marksBy f ks               marks read off the reachable nodes: 0 where 2k is reached, 1 where only 2k+1 is, else 2
+use mathlib.Core.Path.{_≡_}
+use mathlib.Core.Logic.{_≢_}
+use mathlib.Core.Bool.{Bool}
+use mathlib.Core.List.{List, [], _∷_}
+use Prim.Native.Nat.{ℕ, suc, _+_, _*_, _<_}
+use lib.Dec.{ltb, eqb}
+use lib.ListN.{length}
+use Rattle.counting.specs.Tests.{pick, below}
+use Rattle.counting.specs.Pairs.{Pair, pair}
+use Rattle.skew.specs.Graph.{Graph}
+use Rattle.skew.specs.Paths.{tail, head}
+use Rattle.matching.specs.Matching.{Fits}
+
+unfoldable pub cameraArcs : (cameras : ℕ) → (partner : ℕ → ℕ) → List ℕ → (rest : List Pair) → List Pair
+cameraArcs n p [] rest = rest
+cameraArcs n p (k ∷ ks) rest =
+    pick (eqb (p k) k) (pair (2 * n) (2 * k) ∷ pair (2 * k + 1) (2 * n + 1) ∷ cameraArcs n p ks rest)
+    (pick (ltb k (p k)) (pair (2 * k + 1) (2 * p k) ∷ pair (2 * p k + 1) (2 * k) ∷ cameraArcs n p ks rest) (cameraArcs n p ks rest))
+
+unfoldable pub fitArcs : (partner : ℕ → ℕ) → (fits : List Pair) → List Pair
+fitArcs p [] = []
+fitArcs p (x ∷ xs) =
+    pick (eqb (p (x .first)) (x .second)) (fitArcs p xs)
+    (pair (2 * x .first) (2 * x .second + 1) ∷ pair (2 * x .second) (2 * x .first + 1) ∷ fitArcs p xs)
+
+abbrev pub doubledTable : (cameras : ℕ) → (fits : List Pair) → (partner : ℕ → ℕ) → Graph
+doubledTable n fs p = record { pairs = suc n; source = 2 * n; arcs = cameraArcs n p (below n) (fitArcs p fs) }
+
+pub data Arc (n : ℕ) (fs : List Pair) (p : ℕ → ℕ) (x : Pair) : Type 0 where
+  fromSource : (k : ℕ) → k < n → p k ≡ k → x .first ≡ 2 * n → x .second ≡ 2 * k → Arc n fs p x
+  toMate : (k : ℕ) → k < n → p k ≡ k → x .first ≡ 2 * k + 1 → x .second ≡ 2 * n + 1 → Arc n fs p x
+  litFit : (k : ℕ) → k < n → p k < n → p k ≢ k → x .first ≡ 2 * k + 1 → x .second ≡ 2 * p k → Arc n fs p x
+  otherFit : (u v : ℕ) → Fits fs u v → p u ≢ v → x .first ≡ 2 * u → x .second ≡ 2 * v + 1 → Arc n fs p x
+
+abbrev pub ArcBetween : Graph → ℕ → ℕ → Type 0
+ArcBetween g v w = (i : ℕ) × (i < length (g .arcs)) × (tail g i ≡ v) × (head g i ≡ w)
+
+unfoldable pub marksBy : (reached : ℕ → Bool) → (cameras : List ℕ) → List ℕ
+marksBy f [] = []
+marksBy f (k ∷ ks) = pick (f (2 * k)) 0 (pick (f (2 * k + 1)) 1 2) ∷ marksBy f ks

@@ -1,0 +1,123 @@
+-- A graph without a path, read by its canonical barrier: the classes of a node and its mate by which of them are reachable, and the one entry of each Xi.
+-- Assumes nothing.
+--   Classes v w, classes-of      a node and its mate: both reachable, one of them, or none
+--   Entry i c                    arc i leads from A into class c, an Xi
+--   entry-one, find-entry        there is one; it is found by trial
+--   path-entry                   a regular path to a node of an Xi goes over its entry
+use mathlib.Core.Path.{_≡_, refl, sym, ap, subst, _∙_}
+use mathlib.Core.Logic.{_⊎_, inl, inr, ⊎-elim}
+use mathlib.Core.Bool.{Bool, true, false}
+use mathlib.Core.List.{List, [], _∷_}
+use Prim.Native.Nat.{ℕ, _+_, _≤_, _<_}
+use native.Mathlib.Omega.{arith}
+use lib.ListN.{length}
+use borrow.Author.Tests.{eq-eqb, ne-eqb}
+use Rattle.counting.specs.Tests.{below}
+use Rattle.counting.specs.Lists.{In, find}
+use Rattle.counting.proofs.Booleans.{and-both, by-test, true-false}
+use Rattle.counting.proofs.Kept.{found}
+use Rattle.counting.proofs.Range.{up-in, in-up}
+use Rattle.skew.specs.Graph.{Graph, mate, nodes, arcAt, nodesAlong, isReachable, hasPath, classAt, largestOf, mateClass, partNumber, classOf, canonical}
+use Rattle.skew.specs.Paths.{tail, head, Joins, WellFormed}
+use Rattle.skew.specs.Barrier.{isEntry, Barrier}
+use Rattle.skew.proofs.Reachable.{nodes-within}
+use Rattle.skew.proofs.AlongPaths.{PathTo, along-reachable}
+use Rattle.skew.proofs.Classes.{fit-from-X, entry-unique, class-largest, barrier}
+use Rattle.skew.proofs.Barrier.{classes-at, no-path-barrier}
+
+module _ (g : Graph) (W : WellFormed g) (shut : hasPath g ≡ false) where
+  abbrev Z : ℕ → Bool
+  Z v = isReachable g v
+
+  abbrev pub class : ℕ → ℕ
+  class v = classAt (canonical g) v
+
+  pub canonical-barrier-of : Barrier g (canonical g)
+  canonical-barrier-of = barrier g (canonical g) (no-path-barrier g W shut)
+
+  -- A NODE AND ITS MATE
+  pub data Classes (v w : ℕ) : Type 0 where
+    both : Z v ≡ true → Z w ≡ true → 3 ≤ class v → class w ≡ class v → Classes v w
+    outer : Z v ≡ true → Z w ≡ false → class v ≡ 1 → class w ≡ 2 → Classes v w
+    inner : Z v ≡ false → Z w ≡ true → class v ≡ 2 → class w ≡ 1 → Classes v w
+    none : Z v ≡ false → Z w ≡ false → class v ≡ 0 → class w ≡ 0 → Classes v w
+
+  pub classes-of : (v : ℕ) → v < nodes g → Classes v (mate v)
+  classes-of v h =
+      let c : class v ≡ classOf g v = classes-at g 0 (nodes g) v h ∙ ap (λ (z : ℕ). classOf g z) (omega arith) in
+      let d : class (mate v) ≡ mateClass (class v) = canonical-barrier-of .mate-class v h in
+      by-test (Z v)
+      (λ s. by-test (Z (mate v))
+      (λ t.
+      let e : classOf g v ≡ 3 + partNumber g v = rw (s, t) in
+      both s t (omega arith) (d ∙ rw (ne-eqb (class v) 1 (λ z. omega arith), ne-eqb (class v) 2 (λ z. omega arith))))
+      (λ t. let e : classOf g v ≡ 1 = rw (s, t) in outer s t (c ∙ e) (d ∙ rw (c ∙ e))))
+      (λ s. by-test (Z (mate v))
+      (λ t. let e : classOf g v ≡ 2 = rw (s, t) in inner s t (c ∙ e) (d ∙ rw (c ∙ e)))
+      (λ t. let e : classOf g v ≡ 0 = rw (s, t) in none s t (c ∙ e) (d ∙ rw (c ∙ e))))
+
+  -- a reachable node is in A or in an Xi
+  reachable-class : (v : ℕ) → v < nodes g → Z v ≡ true → (class v ≡ 1) ⊎ (3 ≤ class v)
+  reachable-class v h e = go (classes-of v h)
+    where
+      go : Classes v (mate v) → (class v ≡ 1) ⊎ (3 ≤ class v)
+      go (both s t a b) = inr a
+      go (outer s t a b) = inl a
+      go (inner s t a b) = true-false e s
+      go (none s t a b) = true-false e s
+
+  -- ENTRIES
+  pub record Entry (i c : ℕ) : Type 0 where
+    pub is-arc : i < length (g .arcs)
+    pub is-X : 3 ≤ c
+    pub from-A : class (tail g i) ≡ 1
+    pub into-X : class (head g i) ≡ c
+
+  entry-test : (i c : ℕ) → Entry i c → isEntry (canonical g) c (arcAt g i) ≡ true
+  entry-test i c E = and-both _ _ (eq-eqb _ _ (E .from-A)) (eq-eqb _ _ (E .into-X))
+
+  single : (i c : ℕ) → Entry i c → (j : ℕ) → j < length (g .arcs) → isEntry (canonical g) c (arcAt g j) ≡ true → j ≡ i
+  single i c E j h t =
+      entry-unique (canonical g) c (g .arcs) j i h (E .is-arc) t (entry-test i c E)
+      (canonical-barrier-of .one-entry c (E .is-X) (subst (λ (z : ℕ). z ≤ largestOf (canonical g)) (E .into-X) (class-largest (canonical g) (head g i))))
+
+  pub entry-one : (i j c : ℕ) → Entry i c → Entry j c → i ≡ j
+  entry-one i j c E F = single j c F i (E .is-arc) (entry-test i c E)
+
+  pub findEntry : ℕ → ℕ
+  findEntry c = find (λ (i : ℕ). isEntry (canonical g) c (arcAt g i)) (below (length (g .arcs)))
+
+  pub find-entry : (i c : ℕ) → Entry i c → findEntry c ≡ i
+  unfolding findEntry
+  find-entry i c E =
+      let m = length (g .arcs) in
+      let f = found (λ (j : ℕ). isEntry (canonical g) c (arcAt g j)) (below m) i (up-in 0 m i (omega arith) (omega (arith, E .is-arc))) (entry-test i c E) in
+      single i c E (findEntry c) (omega (arith, in-up 0 m (findEntry c) (f .0))) (f .1)
+
+  -- a path leaves A for an Xi only over an entry
+  walk : (v w : ℕ) (q : List ℕ) → Joins g v w q → ((x : ℕ) → In x (nodesAlong g v q) → (x < nodes g) × (Z x ≡ true)) → 3 ≤ class w →
+      (class v ≡ class w) ⊎ ((i : ℕ) × In i q × Entry i (class w))
+  unfolding nodesAlong
+  walk v w [] j z h = inl (ap class j)
+  walk v w (i ∷ is) j z h = go (walk (head g i) w is (j .2) (λ x m. z x (inr m)) h)
+    where
+      step : class (head g i) ≡ class w → (class v ≡ class w) ⊎ ((k : ℕ) × In k (i ∷ is) × Entry k (class w))
+      step e =
+          let r = z v (inl refl) in
+          ⊎-elim (λ a. inr (i, inl refl, record { is-arc = j .0; is-X = h; from-A = ap class (j .1) ∙ a; into-X = e }))
+          (λ a.
+          let f =
+          fit-from-X (class (tail g i)) (class (head g i)) (canonical-barrier-of .arc-fits i (j .0)) (subst (λ (y : ℕ). 3 ≤ class y) (sym (j .1)) a) in
+          ⊎-elim (λ s. inl (ap class (sym (j .1)) ∙ sym s ∙ e)) (⊎-elim (λ s. absurd (omega arith)) (λ s. absurd (omega arith))) f)
+          (reachable-class v (r .0) (r .1))
+
+      go : (class (head g i) ≡ class w) ⊎ ((k : ℕ) × In k is × Entry k (class w)) → (class v ≡ class w) ⊎ ((k : ℕ) × In k (i ∷ is) × Entry k (class w))
+      go (inl e) = step e
+      go (inr r) = inr (r .0, inr (r .1), r .2)
+
+  pub path-entry : (v : ℕ) (q : List ℕ) → PathTo g W v q → 3 ≤ class v → (i : ℕ) × In i q × Entry i (class v)
+  path-entry v q P h =
+      let s = canonical-barrier-of .source-class in
+      let low : (x : ℕ) → In x (nodesAlong g (g .source) q) → x < nodes g =
+      nodes-within g (nodes g) (g .source) v q (W .head-node) (W .source-node) (P .joins) in
+      ⊎-elim (λ e. absurd (omega arith)) (λ r. r) (walk (g .source) v q (P .joins) (λ x m. (low x m, along-reachable g W v q P x m)) h)
