@@ -7,6 +7,9 @@
 --   Rotations       one rotation of a matching
 --   InOrder         the pairs of a matching camera by camera
 --   Marks           marks by largest pairings
+--   DoubledTable    the doubled table's arcs; it is well formed
+--   OneArcIn        only one arc leads into a node 2k
+--   Augmentation    a regular path of the doubled table is a run of rotations
 pub mod Pairs
 pub mod Rising
 pub mod Matchings
@@ -15,3 +18,6 @@ pub mod Certificates
 pub mod Rotations
 pub mod InOrder
 pub mod Marks
+pub mod DoubledTable
+pub mod OneArcIn
+pub mod Augmentation
