@@ -25,7 +25,7 @@ use Rattle.skew.proofs.AlongPaths.{PathTo, along-reachable}
 use Rattle.skew.proofs.Classes.{fit-from-X, entry-unique, class-largest, barrier}
 use Rattle.skew.proofs.Barrier.{classes-at, no-path-barrier}
 
-module _ (g : Graph) (W : WellFormed g) (shut : hasPath g ≡ false) where
+module _ (g : Graph) (W : WellFormed g) (no-path : hasPath g ≡ false) where
   abbrev Z : ℕ → Bool
   Z v = isReachable g v
 
@@ -33,7 +33,7 @@ module _ (g : Graph) (W : WellFormed g) (shut : hasPath g ≡ false) where
   class v = classAt (canonical g) v
 
   pub canonical-barrier-of : Barrier g (canonical g)
-  canonical-barrier-of = barrier g (canonical g) (no-path-barrier g W shut)
+  canonical-barrier-of = barrier g (canonical g) (no-path-barrier g W no-path)
 
   -- A NODE AND ITS MATE
   pub data Classes (v w : ℕ) : Type 0 where
