@@ -5,17 +5,18 @@
 --   doubledTable n fs p        the graph
 --   Arc n fs p x               x is an arc of one of the four kinds
 --   ArcBetween g v w           some arc of g goes from v to w
+--   isOuter, isInner           camera k with 2k reachable; with 2k+1 reachable and 2k not
 --   marksBy f ks               marks read off the reachable nodes: 0 where 2k is reached, 1 where only 2k+1 is, else 2
 use mathlib.Core.Path.{_≡_}
 use mathlib.Core.Logic.{_≢_}
-use mathlib.Core.Bool.{Bool}
+use mathlib.Core.Bool.{Bool, _&&_, not}
 use mathlib.Core.List.{List, [], _∷_}
 use Prim.Native.Nat.{ℕ, suc, _+_, _*_, _<_}
 use lib.Dec.{ltb, eqb}
 use lib.ListN.{length}
 use Rattle.counting.specs.Tests.{pick, below}
 use Rattle.counting.specs.Pairs.{Pair, pair}
-use Rattle.skew.specs.Graph.{Graph}
+use Rattle.skew.specs.Graph.{Graph, isReachable}
 use Rattle.skew.specs.Paths.{tail, head}
 use Rattle.matching.specs.Matching.{Fits}
 
@@ -42,6 +43,13 @@ pub data Arc (n : ℕ) (fs : List Pair) (p : ℕ → ℕ) (x : Pair) : Type 0 wh
 
 abbrev pub ArcBetween : Graph → ℕ → ℕ → Type 0
 ArcBetween g v w = (i : ℕ) × (i < length (g .arcs)) × (tail g i ≡ v) × (head g i ≡ w)
+
+-- READ OFF THE REACHABLE NODES
+abbrev pub isOuter : (cameras : ℕ) → (fits : List Pair) → (partner : ℕ → ℕ) → (camera : ℕ) → Bool
+isOuter n fs p k = isReachable (doubledTable n fs p) (2 * k)
+
+abbrev pub isInner : (cameras : ℕ) → (fits : List Pair) → (partner : ℕ → ℕ) → (camera : ℕ) → Bool
+isInner n fs p k = not (isReachable (doubledTable n fs p) (2 * k)) && isReachable (doubledTable n fs p) (2 * k + 1)
 
 unfoldable pub marksBy : (reached : ℕ → Bool) → (cameras : List ℕ) → List ℕ
 marksBy f [] = []

@@ -1,0 +1,111 @@
+-- A matching whose doubled table has no path is largest, and the reachable nodes are the marks: 2k reachable is 00, only 2k+1 is 01, neither is 02.
+-- Assumes nothing.
+--   no-path-largest, no-path-greatest, no-path-pairs     it leaves over no more than any other; it has the greatest number of pairs
+--   outer-left, left-outer                               outer cameras are those that some largest pairing leaves over
+--   no-path-mark, no-path-marks                          a camera's mark; all marks
+--   augmented-pairs, path-less, no-path-is               a path gives one pair more, so there is none exactly where the pairing is largest
+use mathlib.Core.Path.{_≡_, refl}
+use mathlib.Core.Logic.{inl, inr, ⊎-elim, _↔_}
+use mathlib.Core.Bool.{true, false}
+use mathlib.Core.List.{List, [], _∷_}
+use Prim.Native.Nat.{ℕ, suc, _+_, _*_, _≤_, _<_}
+use native.Mathlib.Omega.{arith}
+use lib.ListN.{length}
+use Rattle.counting.specs.Tests.{pick, below}
+use Rattle.counting.specs.Lists.{In}
+use Rattle.counting.specs.Pairs.{Pair}
+use Rattle.counting.proofs.Booleans.{by-test, true-false}
+use Rattle.counting.proofs.Range.{in-up}
+use Rattle.skew.specs.Graph.{isReachable, hasPath}
+use Rattle.matching.specs.Stock.{greatest, leftOver, fitsLeftOver, markOf, marksFrom, marksOf}
+use Rattle.matching.specs.Matching.{FitsBelow, Matching, unlit, partner, litFits}
+use Rattle.matching.specs.DoubledTable.{doubledTable, isOuter, isInner, marksBy}
+use Rattle.matching.specs.Rotation.{Augments}
+use Rattle.matching.specs.Certificate.{Certificate}
+use Rattle.matching.proofs.Matchings.{fits-back, fits-low, list-matching, list-count, lit-count}
+use Rattle.matching.proofs.Greatest.{greatest-pairing, matching-bound, left-matching, fits-some, some-fits}
+use Rattle.matching.proofs.Certificates.{largest, left-is-outer}
+use Rattle.matching.proofs.Augmentation.{reachable-left, path-more}
+use Rattle.matching.proofs.Groups.{group}
+use Rattle.matching.proofs.Decomposition.{certificate}
+
+module _ (n : ℕ) (fs : List Pair) (F : FitsBelow n fs) where
+  module _ (p : ℕ → ℕ) (M : Matching fs p) (no-path : hasPath (doubledTable n fs p) ≡ false) where
+    abbrev C : Certificate n fs p (isOuter n fs p) (isInner n fs p) (group n fs F p M no-path)
+    C = certificate n fs F p M no-path
+
+    pub no-path-largest : (q : ℕ → ℕ) → Matching fs q → length (unlit n p) ≤ length (unlit n q)
+    no-path-largest q Q = largest n fs F p M (isOuter n fs p) (isInner n fs p) (group n fs F p M no-path) C q Q
+
+    pub no-path-greatest : 2 * greatest fs + length (unlit n p) ≡ n
+    no-path-greatest =
+        let r = greatest-pairing fs in
+        let c = list-count n fs F (r .0) (r .1 .0) in
+        let l = no-path-largest (partner (r .0)) (list-matching n fs F (r .0) (r .1 .0)) in
+        let e = r .1 .1 in
+        omega (arith, lit-count n fs F p M, matching-bound n fs F p M)
+
+    pub no-path-pairs : length (litFits p fs) ≡ greatest fs
+    no-path-pairs = omega (arith, no-path-greatest, lit-count n fs F p M)
+
+    -- MARKS
+    pub outer-left : (k : ℕ) → k < n → isOuter n fs p k ≡ true → leftOver fs k ≡ true
+    outer-left k h e =
+        let r = reachable-left n fs F p M k h e in
+        let L = r .1 in
+        let b = L .count in
+        let c = no-path-greatest in
+        left-matching n fs F k .1 (record { partners = r .0; matching = L .matching; largest = omega arith; left = L .left })
+
+    pub left-outer : (k : ℕ) → k < n → leftOver fs k ≡ true → isOuter n fs p k ≡ true
+    left-outer k h e =
+        let L = left-matching n fs F k .0 e in
+        let b = L .largest in
+        let c = no-path-greatest in
+        left-is-outer n fs F p M (isOuter n fs p) (isInner n fs p) (group n fs F p M no-path) C (L .partners) (L .matching) (omega arith) k h (L .left)
+
+    pub no-path-mark : (k : ℕ) → k < n →
+        markOf fs k ≡ pick (isReachable (doubledTable n fs p) (2 * k)) 0 (pick (isReachable (doubledTable n fs p) (2 * k + 1)) 1 2)
+    no-path-mark k h =
+        by-test (isOuter n fs p k) (λ s. rw (s, outer-left k h s))
+        (λ s.
+        let out : leftOver fs k ≡ false = by-test (leftOver fs k) (λ t. true-false (left-outer k h t) s) (λ t. t) in
+        by-test (isReachable (doubledTable n fs p) (2 * k + 1))
+        (λ t.
+        let c = C .inner k h (rw (s, t)) in
+        let f = M .fit k (c .0) in
+        let w : fitsLeftOver fs k ≡ true = some-fits fs k (p k) f (outer-left (p k) (fits-low n fs F k (p k) f .1) (c .1)) in
+        rw (s, t, out, w))
+        (λ t.
+        let w : fitsLeftOver fs k ≡ false = by-test (fitsLeftOver fs k)
+        (λ y.
+        let r = fits-some fs k y in
+        let v = r .0 in
+        let d = left-outer v (fits-low n fs F k v (r .1) .1) (r .2) in
+        ⊎-elim (λ z. let b : isInner n fs p k ≡ false = rw (s, t) in true-false z b) (λ z. true-false (z .0) s)
+        (C .fits v k (fits-back fs k v (r .1)) d))
+        (λ y. y) in
+        rw (s, t, out, w)))
+
+    marks-by : (ks : List ℕ) → ((k : ℕ) → In k ks → k < n) → marksFrom fs ks ≡ marksBy (isReachable (doubledTable n fs p)) ks
+    unfolding marksFrom marksBy
+    marks-by [] h = refl
+    marks-by (k ∷ ks) h = rw (marks-by ks (λ j m. h j (inr m)), no-path-mark k (h k (inl refl)))
+
+    pub no-path-marks : marksOf n fs ≡ marksBy (isReachable (doubledTable n fs p)) (below n)
+    no-path-marks = marks-by (below n) (λ k m. omega (arith, in-up 0 n k m))
+
+  -- ONE PAIR MORE for each path
+  pub augmented-pairs : (p q : ℕ → ℕ) → Matching fs p → Augments n fs p q → length (litFits q fs) ≡ suc (length (litFits p fs))
+  augmented-pairs p q M G = let c = G .count in omega (arith, lit-count n fs F p M, lit-count n fs F q (G .matching))
+
+  pub path-less : (p : ℕ → ℕ) → Matching fs p → hasPath (doubledTable n fs p) ≡ true → length (litFits p fs) < greatest fs
+  path-less p M e =
+      let r = path-more n fs F p M e in
+      omega (arith, augmented-pairs p (r .0) M (r .1), matching-bound n fs F (r .0) (r .1 .matching))
+
+  pub no-path-is : (p : ℕ → ℕ) → Matching fs p → (hasPath (doubledTable n fs p) ≡ false) ↔ (length (litFits p fs) ≡ greatest fs)
+  no-path-is p M = (
+    no-path-pairs p M,
+    λ e. by-test (hasPath (doubledTable n fs p)) (λ t. absurd (omega (arith, path-less p M t))) (λ t. t),
+  )

@@ -1,0 +1,39 @@
+-- The promises, kept for every well-formed stock.
+--   well-formed-fits, well-formed-lit     what a well-formed stock gives the theory
+--   greatest-is                           document 03's GreatestIs
+--   marks-are                             document 03's MarksAre
+use mathlib.Core.Path.{_≡_}
+use mathlib.Core.Bool.{true}
+use lib.Dec.{ltb}
+use borrow.Author.Tests.{ltb-true}
+use Rattle.counting.specs.Tests.{all}
+use Rattle.counting.proofs.Booleans.{and-right, and-both}
+use Rattle.counting.proofs.Membership.{all-each}
+use Rattle.matching.specs.Stock.{Stock, hasPair, noneShared, isPairing}
+use Rattle.matching.specs.Matching.{FitsBelow}
+use Rattle.matching.specs.Promise.{pairNamed, WellFormedStock, GreatestIs, MarksAre}
+use Rattle.matching.proofs.Rising.{rise-rising}
+use Rattle.matching.proofs.Greatest.{greatest-bound, greatest-pairing}
+use Rattle.matching.proofs.Marks.{mark-zero, mark-one}
+use Rattle.matching.proofs.Plans.{some-plan}
+
+pub well-formed-fits : (s : Stock) → WellFormedStock s → FitsBelow (s .cameras) (s .fits)
+well-formed-fits s w =
+    record {
+      rising = rise-rising (s .fits) (w .rising);
+      named = λ x m. ltb-true _ _ (and-right (ltb (x .first) (s .cameras)) _ (all-each (pairNamed (s .cameras)) (s .fits) (w .named) x m));
+    }
+
+pub well-formed-lit : (s : Stock) → WellFormedStock s → isPairing (s .fits) (s .lit) ≡ true
+well-formed-lit s w = and-both (all (hasPair (s .fits)) (s .lit)) (noneShared (s .lit)) (w .litFits) (w .litApart)
+
+pub greatest-is : GreatestIs
+greatest-is s ps w = (
+  greatest-bound (s .cameras) (s .fits) (well-formed-fits s w) ps,
+  greatest-pairing (s .fits),
+  some-plan s (well-formed-fits s w) (well-formed-lit s w) (w .litRising),
+)
+
+pub marks-are : MarksAre
+marks-are s u w h =
+    (mark-zero (s .cameras) (s .fits) (well-formed-fits s w) u, mark-one (s .cameras) (s .fits) (well-formed-fits s w) u)
