@@ -2,6 +2,7 @@
 --   in-left, in-right, in-append      in xs ++ ys exactly if in xs or in ys
 --   in-split, in-middle               an element cuts its list in two; a list with one element more
 --   in-getD, getD-in                  an element stands at some index, and what stands there is one
+--   getD-default                     within the list the default is not read
 --   any-some, some-any                any f xs: some element has f
 --   all-each, each-all                all f xs: each element has f
 --   all-getD, getD-all                the same by index
@@ -53,6 +54,11 @@ pub getD-in : {A : Type 0} (xs : List A) (d : A) (i : ℕ) → i < length xs →
 getD-in [] d i h = absurd (omega arith)
 getD-in (x ∷ xs) d zero h = inl refl
 getD-in (x ∷ xs) d (suc i) h = inr (getD-in xs d i (omega arith))
+
+pub getD-default : {A : Type 0} (xs : List A) (i : ℕ) (d e : A) → i < length xs → getD xs i d ≡ getD xs i e
+getD-default [] i d e h = absurd (omega arith)
+getD-default (x ∷ xs) zero d e h = refl
+getD-default (x ∷ xs) (suc i) d e h = getD-default xs i d e (omega arith)
 
 -- SOME AND EACH
 pub any-some : {A : Type 0} (f : A → Bool) (xs : List A) → any f xs ≡ true → (x : A) × In x xs × (f x ≡ true)
