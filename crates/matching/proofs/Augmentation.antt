@@ -3,19 +3,22 @@
 --   path-leaves-over, reachable-left     to 2k: a matching with as many pairs that leaves k over
 --   path-augments, path-more             to the source's mate: one with one pair more that keeps every lit camera lit
 --   path-rotates                         each rotation of such a path is between different cameras below n
+--   wanted-augments                      both, of the path that document 03's isWanted tells
 use mathlib.Core.Path.{_≡_, refl, sym, ap, subst, _∙_}
 use mathlib.Core.Logic.{_⊎_, inl, inr, _≢_, ⊎-elim}
 use mathlib.Core.Bool.{true}
 use mathlib.Core.List.{List, [], _∷_}
 use Prim.Native.Nat.{ℕ, _+_, _*_, _/_, _<_}
 use native.Mathlib.Omega.{arith}
+use lib.Dec.{eqb}
 use lib.ListN.{length, drop}
+use borrow.Author.Tests.{eqb-true}
 use Rattle.counting.specs.Lists.{In, Within, Distinct}
 use Rattle.counting.specs.Pairs.{Pair}
-use Rattle.counting.proofs.Booleans.{same-or}
-use Rattle.skew.specs.Graph.{Graph, mate, arcAt, nodesAlong, isReachable, hasPath}
+use Rattle.counting.proofs.Booleans.{and-two, same-or}
+use Rattle.skew.specs.Graph.{Graph, mate, arcAt, nodesAlong, endOf, isRegular, isWanted, isReachable, hasPath}
 use Rattle.skew.specs.Paths.{tail, head, Joins, WellFormed}
-use Rattle.skew.proofs.Paths.{nodes-cons}
+use Rattle.skew.proofs.Paths.{nodes-cons, regular-path}
 use Rattle.skew.proofs.AlongPaths.{PathTo, reachable-path, met-once}
 use Rattle.matching.specs.Matching.{FitsBelow, Fits, Matching, unlit}
 use Rattle.matching.specs.DoubledTable.{doubledTable, Arc, fromSource, toMate, litFit, otherFit}
@@ -235,3 +238,10 @@ module _ (n : ℕ) (fs : List Pair) (F : FitsBelow n fs) (p : ℕ → ℕ) (M : 
       let m : mate (2 * n) ≡ 2 * n + 1 = mate-even n in
       let r = reachable-path g W (2 * n + 1) (subst (λ (z : ℕ). isReachable g z ≡ true) m e) in
       (rotateAlong g (drop 1 (r .0)) p, path-augments (r .0) (r .1))
+
+  pub wanted-augments : (P : List ℕ) → isWanted g P ≡ true → Rotates n g (drop 1 P) p × Augments n fs p (rotateAlong g (drop 1 P) p)
+  wanted-augments P e =
+      let r = and-two (isRegular g P) (eqb (endOf g (g .source) P) (mate (g .source))) e in
+      let end : endOf g (g .source) P ≡ 2 * n + 1 = eqb-true _ _ (r .1) ∙ mate-even n in
+      let R : PathTo g W (2 * n + 1) P = subst (λ (z : ℕ). PathTo g W z P) end (regular-path g P (r .0)) in
+      (path-rotates P R, path-augments P R)

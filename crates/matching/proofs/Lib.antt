@@ -6,6 +6,7 @@
 --   Greatest         the greatest number of pairs and the cameras left over, by all pairings
 --   Marks            marks by largest pairings
 --   Rotations        one rotation of a matching
+--   Rows             stores into a row of partners
 --   DoubledTable     the doubled table's arcs; it is well formed
 --   OneArcIn         only one arc leads into a node 2k
 --   Augmentation     a regular path of the doubled table is a run of rotations
@@ -22,6 +23,7 @@ pub mod InOrder
 pub mod Greatest
 pub mod Marks
 pub mod Rotations
+pub mod Rows
 pub mod DoubledTable
 pub mod OneArcIn
 pub mod Augmentation

@@ -4,6 +4,7 @@
 --   Pairs           lists of pairs: ends, rising
 --   Matching        pairings as involutions
 --   Rotation        rotation of a matching, and along a path
+--   Row             a pairing as a row of partners
 --   DoubledTable    the doubled table of a matching, a skew-symmetric graph
 --   Certificate     the Gallai-Edmonds decomposition
 pub mod Stock
@@ -11,5 +12,6 @@ pub mod Promise
 pub mod Pairs
 pub mod Matching
 pub mod Rotation
+pub mod Row
 pub mod DoubledTable
 pub mod Certificate
