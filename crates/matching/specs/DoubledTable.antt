@@ -1,7 +1,8 @@
 -- The doubled table of a matching p (document 01, "Stocks"; document 001, section 2.1): camera k is nodes 2k and 2k+1, the source is 2n. First, for
 -- each camera in turn, what p says of it; then the fits outside the pairing. Each arc is followed by its mate.
---   cameraArcs n p ks rest     a camera: from the source if it is unlit; to its partner if that is the larger
---   fitArcs p fs               a fit that is not lit: both ways round
+--   arcsOfCamera n k w         camera k with partner w: from the source if it is unlit; to its partner if that is the larger
+--   arcsOfFit u v w            a fit of u, whose partner is w, and v: both ways round, nothing if it is lit
+--   cameraArcs, fitArcs        the arcs of every camera and of every fit
 --   doubledTable n fs p        the graph
 --   Arc n fs p x               x is an arc of one of the four kinds
 --   ArcBetween g v w           some arc of g goes from v to w
@@ -10,7 +11,7 @@
 use mathlib.Core.Path.{_≡_}
 use mathlib.Core.Logic.{_≢_}
 use mathlib.Core.Bool.{Bool, _&&_, not}
-use mathlib.Core.List.{List, [], _∷_}
+use mathlib.Core.List.{List, [], _∷_, _++_}
 use Prim.Native.Nat.{ℕ, suc, _+_, _*_, _<_}
 use lib.Dec.{ltb, eqb}
 use lib.ListN.{length}
@@ -20,17 +21,21 @@ use Rattle.skew.specs.Graph.{Graph, isReachable}
 use Rattle.skew.specs.Paths.{tail, head}
 use Rattle.matching.specs.Matching.{Fits}
 
+abbrev pub arcsOfCamera : (cameras camera partner : ℕ) → List Pair
+arcsOfCamera n k w =
+    pick (eqb w k) (pair (2 * n) (2 * k) ∷ pair (2 * k + 1) (2 * n + 1) ∷ [])
+    (pick (ltb k w) (pair (2 * k + 1) (2 * w) ∷ pair (2 * w + 1) (2 * k) ∷ []) [])
+
 unfoldable pub cameraArcs : (cameras : ℕ) → (partner : ℕ → ℕ) → List ℕ → (rest : List Pair) → List Pair
 cameraArcs n p [] rest = rest
-cameraArcs n p (k ∷ ks) rest =
-    pick (eqb (p k) k) (pair (2 * n) (2 * k) ∷ pair (2 * k + 1) (2 * n + 1) ∷ cameraArcs n p ks rest)
-    (pick (ltb k (p k)) (pair (2 * k + 1) (2 * p k) ∷ pair (2 * p k + 1) (2 * k) ∷ cameraArcs n p ks rest) (cameraArcs n p ks rest))
+cameraArcs n p (k ∷ ks) rest = arcsOfCamera n k (p k) ++ cameraArcs n p ks rest
+
+abbrev pub arcsOfFit : (one other partner : ℕ) → List Pair
+arcsOfFit u v w = pick (eqb w v) [] (pair (2 * u) (2 * v + 1) ∷ pair (2 * v) (2 * u + 1) ∷ [])
 
 unfoldable pub fitArcs : (partner : ℕ → ℕ) → (fits : List Pair) → List Pair
 fitArcs p [] = []
-fitArcs p (x ∷ xs) =
-    pick (eqb (p (x .first)) (x .second)) (fitArcs p xs)
-    (pair (2 * x .first) (2 * x .second + 1) ∷ pair (2 * x .second) (2 * x .first + 1) ∷ fitArcs p xs)
+fitArcs p (x ∷ xs) = arcsOfFit (x .first) (x .second) (p (x .first)) ++ fitArcs p xs
 
 abbrev pub doubledTable : (cameras : ℕ) → (fits : List Pair) → (partner : ℕ → ℕ) → Graph
 doubledTable n fs p = record { pairs = suc n; source = 2 * n; arcs = cameraArcs n p (below n) (fitArcs p fs) }
