@@ -2,7 +2,8 @@
 --   up-in, in-up, length-up, distinct-up      upFrom a n: from a on, below a + n, n of them, no repeats
 --   pigeonhole                                numbers below n without repeats: at most n of them
 --   some-below                                bounded search: some number below n has it, or none has
-use mathlib.Core.Path.{_≡_, refl, ap}
+--   some-or-each                              the same where each number has one thing or another
+use mathlib.Core.Path.{_≡_, refl, sym, ap, subst}
 use mathlib.Core.Logic.{_⊎_, inl, inr, ⊎-elim}
 use mathlib.Core.Bool.{Bool, true, false}
 use mathlib.Core.List.{List}
@@ -45,3 +46,12 @@ some-below f n =
     by-test (any f (below n))
     (λ t. let r = any-some f (below n) t in inl (r .0, omega (arith, in-up 0 n (r .0) (r .1)), r .2))
     (λ t. inr (λ i h. by-test (f i) (λ s. true-false (some-any f i (below n) (up-in 0 n i (omega arith) (omega arith)) s) t) (λ s. s)))
+
+pub some-or-each : {P Q : ℕ → Type 0} (n : ℕ) → ((i : ℕ) → i < n → P i ⊎ Q i) → ((i : ℕ) × (i < n) × P i) ⊎ ((i : ℕ) → i < n → Q i)
+some-or-each zero f = inr (λ i h. absurd (omega arith))
+some-or-each {P} {Q} (suc n) f = go (f n (omega arith)) (some-or-each n (λ i h. f i (omega arith)))
+  where
+    go : P n ⊎ Q n → ((i : ℕ) × (i < n) × P i) ⊎ ((i : ℕ) → i < n → Q i) → ((i : ℕ) × (i < suc n) × P i) ⊎ ((i : ℕ) → i < suc n → Q i)
+    go (inl a) r = inl (n, omega arith, a)
+    go (inr b) (inl r) = inl (r .0, omega (arith, r .1), r .2)
+    go (inr b) (inr e) = inr (λ i h. ⊎-elim (λ q. subst (λ (k : ℕ). Q k) (sym q) b) (λ q. e i (omega arith)) (same-or i n))

@@ -11,12 +11,13 @@ use mathlib.Core.List.{List, [], _∷_, _++_}
 use Prim.Native.Nat.{ℕ, _<_}
 use lib.ListN.{length}
 use Rattle.counting.specs.Lists.{In, Within, Distinct}
-use Rattle.counting.proofs.Booleans.{same-or}
-use Rattle.counting.proofs.Membership.{in-left}
 use Rattle.skew.specs.Graph.{Graph, mate, nodesAlong, isReachable}
 use Rattle.skew.specs.Paths.{tail, head, Joins, RegularPath, WellFormed}
+use Rattle.skew.specs.Steps.{within}
+use Rattle.counting.proofs.Booleans.{same-or}
+use Rattle.counting.proofs.Membership.{in-left}
 use Rattle.skew.proofs.Mates.{mate-mate}
-use Rattle.skew.proofs.Paths.{nodes-cons, joins-end, arc-ends, mate-arc, regular-path, path-regular}
+use Rattle.skew.proofs.Paths.{regular-path, path-regular, nodes-cons, joins-end, arc-ends, mate-arc}
 use Rattle.skew.proofs.Reachable.{reachable-by-paths}
 
 module _ (g : Graph) where
@@ -100,6 +101,6 @@ module _ (g : Graph) (W : WellFormed g) where
         let ha = arc-ends g (g .source) v p (P .joins) (a .0) (a .1) .0 in
         let hb = arc-ends g (g .source) v p (P .joins) (b .0) (b .1) .0 in
         let r = mate-arc g (W .symmetric) (a .0) ha in
-        let e : head g (mate (a .0)) ≡ x = r .2 ∙ ap (λ (z : ℕ). mate z) (a .2) ∙ mate-mate x in
+        let e : head g (mate (a .0)) ≡ x = r .2 ∙ ap mate (a .2) ∙ mate-mate x in
         let same : b .0 ≡ mate (a .0) = one (b .0) (mate (a .0)) hb (r .0) (b .2) e in
         P .unmated (a .0) (a .1) (subst (λ (z : ℕ). In z p) same (b .1))

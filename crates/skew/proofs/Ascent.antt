@@ -1,136 +1,142 @@
--- Ascent.
+-- The ascent as a loop takes it (MEET, BUD): from its start by absorptions to two ends in one fragment.
+--   ascent-at          what is read off the two ends
+--   ascent-arc         the end with the later base is not the source's
+--   ascent-absorb      that end moves up
+--   ascent-same        both ends in one fragment: what is absorbed, by which base, and that something changes
 use mathlib.Core.Path.{_≡_, refl, sym, ap, subst, _∙_}
 use mathlib.Core.Logic.{_⊎_, inl, inr, _≢_, ⊎-elim}
 use mathlib.Core.Bool.{Bool, true, false}
-use mathlib.Core.List.{[], _∷_, append-nil}
+use mathlib.Core.List.{List, [], _∷_, _++_, append-nil}
 use Prim.Native.Nat.{ℕ, _≤_}
-use lib.Dec.{eqb}
-use borrow.Author.Tests.{eq-eqb}
-use Rattle.counting.specs.Lists.{In}
+use Rattle.counting.specs.Lists.{In, reverseMap}
 use Rattle.skew.specs.Graph.{Graph, mate, nodesAlong}
 use Rattle.skew.specs.Paths.{tail, head, RegularPath, SkewSymmetric}
-use Rattle.skew.specs.Segments.{Seg, done}
-use Rattle.skew.specs.Search.{State, BaseArc, ReachedEnds, Invariant}
-use Rattle.skew.specs.Steps.{InUnion, reachedAfter, Absorbable}
-use Rattle.skew.specs.Ascent.{Bridge, Ends, NoneAbsorbed, Ascent, AddsBase, AscentEnds}
-use Rattle.counting.proofs.Booleans.{or-right, by-test, true-false}
+use Rattle.skew.specs.Segments.{Seg}
+use Rattle.skew.specs.Search.{State, BaseArc, Invariant}
+use Rattle.skew.specs.Steps.{InUnion, Absorbable}
+use Rattle.skew.specs.Ascent.{Bridge, InAbsorbed, Ends, NoneAbsorbed, SomeAbsorbed, Ascent, AddsBase, AscentEnds}
+use Rattle.counting.proofs.Booleans.{by-test}
 use Rattle.skew.proofs.Mates.{mate-mate, mate-other}
-use Rattle.skew.proofs.Paths.{path-empty, extend}
-use Rattle.skew.proofs.Segments.{seg-step}
-use Rattle.skew.proofs.Absorb.{bridge-ends, some-mirror, later-not-source, absorb-first, absorb-next, absorb-ends}
+use Rattle.skew.proofs.Paths.{arc-ends, nodes-empty, mate-arc}
+use Rattle.skew.proofs.RegularPaths.{path-empty, concat, extend}
+use Rattle.skew.proofs.SourcePaths.{later-not-source}
+use Rattle.skew.proofs.Absorb.{absorb-first, absorb-next}
+use Rattle.skew.proofs.Meet.{meet-disjoint, at-base, meet}
 
 module _ (g : Graph) (d : SkewSymmetric g) (st : State) (I : Invariant g st) where
-  pub ascent-mirror : (C : ℕ → Bool) (W : ℕ → ℕ) (e v₀ z₀ v z : ℕ) → Ascent g st C W e v₀ z₀ v z → Ascent g st C W (mate e) z₀ v₀ z v
-  ascent-mirror C W e v₀ z₀ v z (inl F) =
-      inl
-      (record {
-        v-is = F .z-is;
-        z-is = F .v-is;
-        none = F .none;
-        via-old = F .via-old;
-        unsettled =
-            record {
-              not-base-arcs = λ n. let r = F .unsettled .not-base-arcs (λ q. n (sym q)) in (r .1, λ q. r .0 (sym (mate-mate e) ∙ q));
-              mate-new = λ q. rw q (F .unsettled .mate-new (sym q));
-            };
-      })
-  ascent-mirror C W e v₀ z₀ v z (inr L) = inr (some-mirror g d st I C W e v₀ z₀ v z L)
+  module _ (C : ℕ → Bool) (via : ℕ → ℕ) (e v₀ z₀ v z : ℕ) (B : Bridge g st e v₀ z₀) where
+    none-out : NoneAbsorbed g st C via e v₀ z₀ v z → (k : ℕ) → C k ≡ false
+    none-out A k = by-test (C k) (λ t. absurd (A .none k t)) (λ t. t)
 
-  out-of : (C : ℕ → Bool) → ((k : ℕ) → C k ≡ true → ⊥) → (k : ℕ) → C k ≡ false
-  out-of C n k = by-test (C k) (λ t. absurd (n k t)) (λ t. t)
+    pub ascent-at : Ascent g st C via e v₀ z₀ v z → AscentEnds st C via v z
+    ascent-at (inl A) =
+        record {
+          reached-v = rw (A .v-is) (B .reached-v₀);
+          reached-z = rw (A .z-is) (B .reached-z₀);
+          out-v = none-out A (st .base v);
+          out-z = none-out A (st .base z);
+          via-old = A .via-old;
+        }
+    ascent-at (inr A) =
+        let E = A .ends in
+        record { reached-v = E .reached-v; reached-z = E .reached-z; out-v = E .out-v; out-z = E .out-z; via-old = E .via-old }
 
-  pub ascent-at : (C : ℕ → Bool) (W : ℕ → ℕ) (e v₀ z₀ v z : ℕ) → Bridge g st e v₀ z₀ → Ascent g st C W e v₀ z₀ v z → AscentEnds st C W v z
-  ascent-at C W e v₀ z₀ v z B (inl F) =
-      record {
-        reached-v = rw (F .v-is) (B .reached-v₀);
-        reached-z = rw (F .z-is) (B .reached-z₀);
-        out-v = out-of C (F .none) (st .base v);
-        out-z = out-of C (F .none) (st .base z);
-        via-old = F .via-old;
-      }
-  ascent-at C W e v₀ z₀ v z B (inr L) =
-      let E = L .ends in
-      record { reached-v = E .reached-v; reached-z = E .reached-z; out-v = E .out-v; out-z = E .out-z; via-old = E .via-old }
+    pub ascent-arc : Ascent g st C via e v₀ z₀ v z → st .base v ≢ st .base z → st .birth (st .base v) ≤ st .birth (st .base z) →
+        BaseArc g st (st .base z)
+    ascent-arc A ne le =
+        let o = ascent-at A in
+        I .base-arc (st .base z) (I .base-base z (o .reached-z)) (later-not-source g st I v (st .base z) (o .reached-v) ne le)
 
-  ends : (C : ℕ → Bool) (W : ℕ → ℕ) (e v₀ z₀ v z : ℕ) → Bridge g st e v₀ z₀ → NoneAbsorbed g st C W e v₀ z₀ v z → Ends g st C W v₀ z₀ v z [] []
-  ends C W e v₀ z₀ v z B F =
-      record {
-        bases = λ c q. absurd (F .none c q);
-        not-source = λ c q. absurd (F .none c q);
-        birth-v = λ c q. absurd (F .none c q);
-        birth-z = λ c q. absurd (F .none c q);
-        out-v = out-of C (F .none) (st .base v);
-        out-z = out-of C (F .none) (st .base z);
-        reached-v = rw (F .v-is) (B .reached-v₀);
-        reached-z = rw (F .z-is) (B .reached-z₀);
-        via-old = F .via-old;
-        via-new = λ u q. absurd (F .none (st .base u) q);
-        seg-v = λ L V′ G a p o s. rw (append-nil p) (subst (λ (k : ℕ). Seg g L V′ a k p) (F .v-is) s);
-        seg-z = λ L V′ G a p o s. rw (append-nil p) (subst (λ (k : ℕ). Seg g L V′ a k p) (F .z-is) s);
-      }
+    -- nothing absorbed: no arcs down
+    none-ends : NoneAbsorbed g st C via e v₀ z₀ v z → Ends g st C via v₀ z₀ v z [] []
+    none-ends A =
+        record {
+          bases = λ c q. absurd (A .none c q);
+          not-source = λ c q. absurd (A .none c q);
+          birth-v = λ c q. absurd (A .none c q);
+          birth-z = λ c q. absurd (A .none c q);
+          out-v = none-out A (st .base v);
+          out-z = none-out A (st .base z);
+          reached-v = rw (A .v-is) (B .reached-v₀);
+          reached-z = rw (A .z-is) (B .reached-z₀);
+          via-old = A .via-old;
+          via-new = λ u q. absurd (A .none (st .base u) q);
+          seg-v = λ N a p o s. rw (append-nil p) (subst (λ (k : ℕ). Seg g (N .reached′) (N .via′) a k p) (A .v-is) s);
+          seg-z = λ N a p o s. rw (append-nil p) (subst (λ (k : ℕ). Seg g (N .reached′) (N .via′) a k p) (A .z-is) s);
+        }
 
-  -- the end with the later base moves up
-  pub ascent-absorb : (C D : ℕ → Bool) (W X : ℕ → ℕ) (e v₀ z₀ v z : ℕ) → Bridge g st e v₀ z₀ → Ascent g st C W e v₀ z₀ v z →
-      st .base v ≢ st .base z → st .birth (st .base v) ≤ st .birth (st .base z) → AddsBase st C W (st .base z) e D X →
-      Ascent g st D X e v₀ z₀ v (tail g (st .via (st .base z)))
-  ascent-absorb C D W X e v₀ z₀ v z B (inl F) ne le P =
-      inr (absorb-first g d st I C D W X e v₀ z₀ v z [] [] B (ends C W e v₀ z₀ v z B F) ne le P (sym (F .v-is)) (sym (F .z-is)) refl refl (F .unsettled .not-base-arcs ne .0) (F .none))
-  ascent-absorb C D W X e v₀ z₀ v z B (inr L) ne le P =
-      inr (absorb-next g d st I C D W X e v₀ z₀ v z (L .dv) (L .dz) B (L .ends) ne le P (L .through) (L .arcs) (L .from-ends))
+  pub ascent-absorb : (C C′ : ℕ → Bool) (via via′ : ℕ → ℕ) (e v₀ z₀ v z : ℕ) → Bridge g st e v₀ z₀ → Ascent g st C via e v₀ z₀ v z →
+      st .base v ≢ st .base z → st .birth (st .base v) ≤ st .birth (st .base z) → AddsBase st C via (st .base z) e C′ via′ →
+      Ascent g st C′ via′ e v₀ z₀ v (tail g (st .via (st .base z)))
+  ascent-absorb C C′ via via′ e v₀ z₀ v z B (inl A) ne le P =
+      inr
+      (absorb-first g d st I C C′ via via′ e v₀ z₀ v z [] [] B (none-ends C via e v₀ z₀ v z B A) ne le P (sym (A .v-is)) (sym (A .z-is))
+      refl refl (A .unsettled .not-base-arcs ne .0) (A .none))
+  ascent-absorb C C′ via via′ e v₀ z₀ v z B (inr A) ne le P =
+      inr
+      (absorb-next g d st I C C′ via via′ e v₀ z₀ v z (A .dv) (A .dz) B (A .ends) ne le P (A .through) (A .arcs) (A .from-ends))
 
-  -- that end's base has an arc
-  pub ascent-arc : (C : ℕ → Bool) (W : ℕ → ℕ) (e v₀ z₀ v z : ℕ) → Bridge g st e v₀ z₀ → Ascent g st C W e v₀ z₀ v z →
-      st .base v ≢ st .base z → st .birth (st .base v) ≤ st .birth (st .base z) → BaseArc g st (st .base z)
-  ascent-arc C W e v₀ z₀ v z B S ne le =
-      let o = ascent-at C W e v₀ z₀ v z B S in
-      I .base-arc (st .base z) (I .base-base z (o .reached-z))
-      (later-not-source g d st I v (st .base z) (o .reached-v) ne le)
+  module _ (C : ℕ → Bool) (via via′ : ℕ → ℕ) (e v₀ z₀ v z : ℕ) (B : Bridge g st e v₀ z₀) (same : st .base v ≡ st .base z)
+      (new : st .reached (mate (st .base v)) ≡ false → via′ (mate (st .base v)) ≡ e)
+      (old : (u : ℕ) → (st .reached u ≡ true) ⊎ InAbsorbed st C u → via′ u ≡ via u) where
+    abbrev b : ℕ
+    b = st .base v
 
-  single : (a x : ℕ) → In x (nodesAlong g a []) → x ≡ a
-  unfolding nodesAlong
-  single a x m = ⊎-elim (λ q. q) (λ q. absurd q) m
+    -- an arc from b to its mate, where the two are a plain fragment
+    none-round : (A : NoneAbsorbed g st C via e v₀ z₀ v z) → st .reached (mate b) ≡ false → RegularPath g (InUnion st C b) b (mate b) (e ∷ [])
+    none-round A t =
+        let E = none-ends C via e v₀ z₀ v z B A in
+        let at = at-base g d st I C via via′ e v₀ z₀ v z [] [] B E same new old in
+        let self = I .base-base v (E .reached-v) .self in
+        let to : head g e ≡ mate b = B .head-is ∙ ap mate (sym (A .z-is) ∙ at z t (E .reached-z) (sym same)) in
+        subst (λ (k : ℕ). RegularPath g (InUnion st C b) b k (e ∷ [])) to
+        (extend (path-empty b (inl self)) (B .is-arc) (B .tail-is ∙ sym (A .v-is) ∙ at v t (E .reached-v) refl)
+        (inl (ap (st .base) to ∙ I .base-mate b ∙ self)) (λ m. mate-other b (sym to ∙ nodes-empty g b (head g e) m)) (λ m. m))
 
-  -- both ends in one fragment: what is absorbed, by which base
-  pub ascent-same : (C : ℕ → Bool) (W X : ℕ → ℕ) (e v₀ z₀ v z : ℕ) → Bridge g st e v₀ z₀ → Ascent g st C W e v₀ z₀ v z → st .base v ≡ st .base z →
-      (st .reached (mate (st .base v)) ≡ false → X (mate (st .base v)) ≡ e) →
-      ((u : ℕ) → (st .reached u ≡ true) ⊎ (C (st .base u) ≡ true) → X u ≡ W u) →
-      Absorbable g st C (st .base v) X × (((c : ℕ) × (C c ≡ true)) ⊎ (st .reached (mate (st .base v)) ≡ false))
-  ascent-same C W X e v₀ z₀ v z B (inr L) same new old = (absorb-ends g d st I C W X e v₀ z₀ v z B L same new old, inl (L .some))
-  ascent-same C W X e v₀ z₀ v z B (inl F) same new old =
-      let b = st .base v in
-      let lv : st .reached v ≡ true = rw (F .v-is) (B .reached-v₀) in
-      let lz : st .reached z ≡ true = rw (F .z-is) (B .reached-z₀) in
-      let root = I .base-base v lv in
-      let lone = F .unsettled .mate-new same in
-      let at-base : (w : ℕ) → st .reached w ≡ true → st .base w ≡ b → w ≡ b =
-      λ w l q. ⊎-elim (λ m. true-false m lone) (λ m. ⊎-elim (λ k. k) (λ k. true-false (rw k at l) lone) (m .0 w q))
-      (I .whole b (mate b) root (I .base-mate b ∙ root .self)) in
-      let vb : v ≡ b = at-base v lv refl in
-      let zb : z ≡ b = at-base z lz (sym same) in
-      let fb : tail g e ≡ b = B .tail-is ∙ sym (F .v-is) ∙ vb in
-      let wb : head g e ≡ mate b = B .head-is ∙ ap (λ (k : ℕ). mate k) (sym (F .z-is) ∙ zb) in
-      let S = path-empty g (InUnion st C b) b (inl (root .self)) in
-      let P =
-      extend g (InUnion st C b) b b [] e S (B .is-arc) fb (inl (ap (st .base) wb ∙ I .base-mate b ∙ root .self))
-      (λ m. mate-other b (sym wb ∙ single b (head g e) m)) (λ m. m) in
-      let late : reachedAfter st C b (mate b) ≡ true = or-right (st .reached (mate b)) _ (or-right (C (st .base (mate b))) (eqb (mate b) (mate b)) (eq-eqb (mate b) (mate b) refl)) in
-      let S₂ : Seg g (reachedAfter st C b) X b (mate b) (e ∷ []) =
-      seg-step b (mate b) e b b [] [] late (mate-other b) (new lone) (B .is-arc) fb (ap (λ (y : ℕ). mate y) wb ∙ mate-mate b) done
-      (subst (λ (y : ℕ). Seg g (reachedAfter st C b) X y b []) (sym (mate-mate b)) done) in
-      let K : Absorbable g st C b X =
-      record {
-        via-old = λ u l. old u (inl l) ∙ F .via-old u l;
-        via-new = λ u k f.
-            ⊎-elim (λ q. absurd (F .none (st .base u) q))
-            (λ q.
-            let m : X u ≡ e = ap X q ∙ new lone in
-            subst (λ (y : ℕ). ReachedEnds g st y) (sym m) (bridge-ends g d st I e v₀ z₀ B)) k;
-        base-is = root;
-        out = out-of C (F .none) b;
-        bases = λ c q. absurd (F .none c q);
-        not-source = λ c q. absurd (F .none c q);
-        births = λ c q. absurd (F .none c q);
-        path = λ u q. absurd (F .none (st .base u) q);
-        path-mate = inr (e ∷ [], subst (λ (x : ℕ). RegularPath g (InUnion st C b) b x (e ∷ [])) wb P, S₂);
-      } in
-      (K, inr lone)
+    -- the path through the absorbed fragments, and its exit to b's mate
+    some-round : (A : SomeAbsorbed g st C via e v₀ z₀ v z) → st .reached (mate b) ≡ false →
+        RegularPath g (InUnion st C b) b (mate b) (A .dv ++ e ∷ reverseMap mate (A .dz))
+    unfolding nodesAlong
+    some-round A t =
+        let E = A .ends in
+        let T = A .through in
+        let H = T .into in
+        let at = at-base g d st I C via via′ e v₀ z₀ v z (A .dv) (A .dz) B E same new old in
+        let apart = meet-disjoint g d st I C via via′ e v₀ z₀ v z (A .dv) (A .dz) B E same new old in
+        let self = I .base-base v (E .reached-v) .self in
+        let y = head g (T .exit) in
+        let to : y ≡ mate b = T .exit-head ∙ ap mate (at z t (E .reached-z) (sym same)) in
+        let inb : st .base y ≡ b = ap (st .base) to ∙ I .base-mate b ∙ self in
+        let P : RegularPath g (InUnion st C b) b (T .last) (H .entry ∷ H .inside) =
+        concat d (λ w k. I .base-mate w ∙ k) (λ w k. rw (I .base-mate w) k) apart (path-empty b self) (H .is-arc)
+        (H .tail-is ∙ at v t (E .reached-v) refl) (H .path) in
+        let fresh : In y (nodesAlong g b (H .entry ∷ H .inside)) → ⊥ =
+        ⊎-elim (λ k. mate-other b (sym to ∙ k)) (λ m. apart y inb (H .path .within y m)) in
+        let free : In (mate (T .exit)) (H .entry ∷ H .inside) → ⊥ =
+        ⊎-elim (λ k. T .not-mates (sym k))
+        (λ m.
+        let x = tail g (mate (T .exit)) in
+        let r = arc-ends g (head g (H .entry)) (T .last) (H .inside) (H .path .joins) (mate (T .exit)) m in
+        let f : x ≡ b = mate-arc g d (T .exit) (T .exit-is-arc) .1 ∙ ap mate to ∙ mate-mate b in
+        apart x (ap (st .base) f ∙ self) (H .path .within x (r .1))) in
+        subst (λ (l : List ℕ). RegularPath g (InUnion st C b) b (mate b) l) (A .arcs)
+        (subst (λ (k : ℕ). RegularPath g (InUnion st C b) b k ((H .entry ∷ H .inside) ++ T .exit ∷ [])) to
+        (extend P (T .exit-is-arc) (T .exit-tail) (inl inb) fresh free))
+
+    absorbable : Ascent g st C via e v₀ z₀ v z → Absorbable g st C b via′
+    absorbable (inl A) =
+        meet g d st I C via via′ e v₀ z₀ v z [] [] B (none-ends C via e v₀ z₀ v z B A) same new old (λ u h. absurd (A .none (st .base u) h))
+        (none-round A)
+    absorbable (inr A) =
+        meet g d st I C via via′ e v₀ z₀ v z (A .dv) (A .dz) B (A .ends) same new old (A .from-ends) (some-round A)
+
+    progress : Ascent g st C via e v₀ z₀ v z → ((c : ℕ) × (C c ≡ true)) ⊎ (st .reached (mate b) ≡ false)
+    progress (inl A) = inr (A .unsettled .mate-new same)
+    progress (inr A) = inl (A .some)
+
+  pub ascent-same : (C : ℕ → Bool) (via via′ : ℕ → ℕ) (e v₀ z₀ v z : ℕ) → Bridge g st e v₀ z₀ → Ascent g st C via e v₀ z₀ v z →
+      st .base v ≡ st .base z → (st .reached (mate (st .base v)) ≡ false → via′ (mate (st .base v)) ≡ e) →
+      ((u : ℕ) → (st .reached u ≡ true) ⊎ InAbsorbed st C u → via′ u ≡ via u) →
+      Absorbable g st C (st .base v) via′ × (((c : ℕ) × (C c ≡ true)) ⊎ (st .reached (mate (st .base v)) ≡ false))
+  ascent-same C via via′ e v₀ z₀ v z B A same new old =
+      (absorbable C via via′ e v₀ z₀ v z B same new old A, progress C via via′ e v₀ z₀ v z B same new old A)

@@ -4,7 +4,11 @@
 --   entry-counted, entry-unique, sole-entry   exactly one entry is counted where there is exactly one
 --   class-largest, largest-is                 the largest class bounds every class and is some node's
 --   barrier, barrier-test                     isBarrier holds exactly of barriers
-use mathlib.Core.Path.{_≡_, refl, sym, ap}
+--   X-mate-class                              an Xi is closed under mates
+--   entry-test, test-entry, entries-same      entries by their test; two entries into an Xi are one
+--   canonical-class, canonical-length         the canonical classes as a list
+--   node-class                                a node's canonical class
+use mathlib.Core.Path.{_≡_, refl, sym, ap, subst, _∙_}
 use mathlib.Core.Logic.{_⊎_, inl, inr, _≢_, ⊎-elim}
 use mathlib.Core.Bool.{true, _||_}
 use mathlib.Core.List.{List, [], _∷_}
@@ -13,15 +17,14 @@ use native.Mathlib.Omega.{arith}
 use lib.Dec.{ltb, leb, eqb}
 use lib.ListN.{length, getD}
 use borrow.Author.Tests.{eqb-true, eqb-false, eq-eqb, ne-eqb, ltb-true, ltb-false, le-leb, leb-false}
-use Rattle.counting.specs.Tests.{all, below}
+use Rattle.counting.specs.Tests.{all, upFrom, below}
 use Rattle.counting.specs.Pairs.{Pair, noPair}
-use Rattle.skew.specs.Graph.{Graph, nodes, classAt, largestOf, matesAgree, entriesInto, isXM, arcFits, isBarrier}
-use Rattle.skew.specs.Segments.{step}
-use Rattle.skew.specs.Barrier.{classesFit, isEntry, Barrier}
-use Rattle.counting.proofs.Booleans.{and-five, and-both, or-right, or-cases, or-false-left, or-false-right, by-test, true-false, same-or}
+use Rattle.skew.specs.Graph.{Graph, mate, nodes, arcAt, isReachable, classAt, largestOf, mateClass, matesAgree, entriesInto, isXM, arcFits, isBarrier, classOf, classesFrom, canonical}
+use Rattle.skew.specs.Paths.{tail, head}
+use Rattle.skew.specs.Barrier.{classesFit, isEntry, Barrier, EntryArc, NodeClass, in-X, in-A, in-A′, in-M}
+use Rattle.counting.proofs.Booleans.{and-two, and-five, and-both, or-right, or-cases, or-false-left, or-false-right, by-test, true-false, same-or}
 use Rattle.counting.proofs.Membership.{all-each, each-all, all-getD, getD-all}
-use Rattle.counting.proofs.Range.{up-in, in-up}
-use Rattle.skew.proofs.Paths.{path-empty}
+use Rattle.counting.proofs.Range.{up-in, in-up, length-up}
 
 -- WHICH CLASSES FIT
 pub fit-from-A : (a b : ℕ) → classesFit a b ≡ true → a ≡ 1 → (b ≢ 2) × (b ≢ 0)
@@ -91,15 +94,16 @@ pub class-largest : (cs : List ℕ) (v : ℕ) → classAt cs v ≤ largestOf cs
 unfolding largestOf
 class-largest [] v = omega arith
 class-largest (x ∷ xs) v =
-    by-test (ltb (largestOf xs) x) (λ t. rw t (step (ltb-true (largestOf xs) x t) v (class-largest xs))) (λ t. rw t (path-empty (ltb-false (largestOf xs) x t) v (class-largest xs)))
+    by-test (ltb (largestOf xs) x) (λ t. rw t (new (ltb-true (largestOf xs) x t) v (class-largest xs)))
+    (λ t. rw t (old (ltb-false (largestOf xs) x t) v (class-largest xs)))
   where
-    step : largestOf xs < x → (v : ℕ) → ((w : ℕ) → classAt xs w ≤ largestOf xs) → classAt (x ∷ xs) v ≤ x
-    step h zero ih = omega arith
-    step h (suc w) ih = omega (arith, ih w)
+    new : largestOf xs < x → (v : ℕ) → ((w : ℕ) → classAt xs w ≤ largestOf xs) → classAt (x ∷ xs) v ≤ x
+    new h zero ih = omega arith
+    new h (suc w) ih = omega (arith, ih w)
 
-    path-empty : x ≤ largestOf xs → (v : ℕ) → ((w : ℕ) → classAt xs w ≤ largestOf xs) → classAt (x ∷ xs) v ≤ largestOf xs
-    path-empty h zero ih = omega arith
-    path-empty h (suc w) ih = ih w
+    old : x ≤ largestOf xs → (v : ℕ) → ((w : ℕ) → classAt xs w ≤ largestOf xs) → classAt (x ∷ xs) v ≤ largestOf xs
+    old h zero ih = omega arith
+    old h (suc w) ih = ih w
 
 pub largest-is : (xs : List ℕ) → 0 < largestOf xs → (i : ℕ) × (i < length xs) × (getD xs i 0 ≡ largestOf xs)
 unfolding largestOf
@@ -137,3 +141,44 @@ barrier-test g cs e B =
     (λ t.
     or-right (ltb c 3) (eqb (entriesInto cs c (g .arcs)) 1)
     (eq-eqb _ _ (B .one-entry c (ltb-false c 3 t) (omega (arith, in-up 0 (suc (largestOf cs)) c m)))))))
+
+-- BARRIERS
+pub X-mate-class : (c : ℕ) → 3 ≤ c → mateClass c ≡ c
+X-mate-class c h = rw (ne-eqb c 1 (omega arith), ne-eqb c 2 (omega arith))
+
+pub entry-test : (g : Graph) (cs : List ℕ) (i c : ℕ) → EntryArc g cs i c → isEntry cs c (arcAt g i) ≡ true
+entry-test g cs i c E = and-both _ _ (eq-eqb _ _ (E .from-A)) (eq-eqb _ _ (E .into-X))
+
+pub test-entry : (g : Graph) (cs : List ℕ) (i c : ℕ) → i < length (g .arcs) → 3 ≤ c → isEntry cs c (arcAt g i) ≡ true → EntryArc g cs i c
+test-entry g cs i c h x e =
+    let r = and-two (eqb (classAt cs (tail g i)) 1) (eqb (classAt cs (head g i)) c) e in
+    record { is-arc = h; is-X = x; from-A = eqb-true _ _ (r .0); into-X = eqb-true _ _ (r .1) }
+
+pub entries-same : (g : Graph) (cs : List ℕ) → Barrier g cs → (i j c : ℕ) → EntryArc g cs i c → EntryArc g cs j c → i ≡ j
+entries-same g cs B i j c E F =
+    entry-unique cs c (g .arcs) i j (E .is-arc) (F .is-arc) (entry-test g cs i c E) (entry-test g cs j c F)
+    (B .one-entry c (E .is-X) (subst (λ (z : ℕ). z ≤ largestOf cs) (E .into-X) (class-largest cs (head g i))))
+
+-- THE CANONICAL CLASSES
+classes-at : (g : Graph) (a n i : ℕ) → i < n → getD (classesFrom g (upFrom a n)) i 0 ≡ classOf g (a + i)
+unfolding classesFrom upFrom
+classes-at g a zero i h = absurd (omega arith)
+classes-at g a (suc n) zero h = ap (classOf g) (omega arith)
+classes-at g a (suc n) (suc i) h = classes-at g (suc a) n i (omega arith) ∙ ap (classOf g) (omega arith)
+
+classes-length : (g : Graph) (xs : List ℕ) → length (classesFrom g xs) ≡ length xs
+unfolding classesFrom
+classes-length g [] = refl
+classes-length g (x ∷ xs) = ap suc (classes-length g xs)
+
+pub canonical-class : (g : Graph) (v : ℕ) → v < nodes g → classAt (canonical g) v ≡ classOf g v
+canonical-class g v h = classes-at g 0 (nodes g) v h ∙ ap (classOf g) (omega arith)
+
+pub canonical-length : (g : Graph) → length (canonical g) ≡ nodes g
+canonical-length g = classes-length g (below (nodes g)) ∙ length-up 0 (nodes g)
+
+pub node-class : (g : Graph) (v : ℕ) → NodeClass g v
+node-class g v =
+    by-test (isReachable g v)
+    (λ s. by-test (isReachable g (mate v)) (λ t. in-X s t (rw (s, t))) (λ t. in-A s t (rw (s, t))))
+    (λ s. by-test (isReachable g (mate v)) (λ t. in-A′ s t (rw (s, t))) (λ t. in-M s t (rw (s, t))))

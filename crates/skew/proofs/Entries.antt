@@ -8,22 +8,22 @@ use mathlib.Core.Path.{_≡_, refl, sym, ap, subst, _∙_}
 use mathlib.Core.Logic.{_⊎_, inl, inr, ⊎-elim}
 use mathlib.Core.Bool.{Bool, true, false}
 use mathlib.Core.List.{List, [], _∷_}
-use Prim.Native.Nat.{ℕ, _+_, _≤_, _<_}
+use Prim.Native.Nat.{ℕ, _≤_, _<_}
 use native.Mathlib.Omega.{arith}
 use lib.ListN.{length}
-use borrow.Author.Tests.{eq-eqb, ne-eqb}
 use Rattle.counting.specs.Tests.{below}
 use Rattle.counting.specs.Lists.{In, find}
-use Rattle.counting.proofs.Booleans.{and-both, by-test, true-false}
+use Rattle.skew.specs.Graph.{Graph, mate, nodes, arcAt, nodesAlong, isReachable, hasPath, classAt, mateClass, classOf, canonical}
+use Rattle.skew.specs.Paths.{tail, head, Joins, WellFormed}
+use Rattle.skew.specs.Segments.{step}
+use Rattle.skew.specs.Barrier.{isEntry, Barrier, EntryArc, NodeClass, in-X, in-A, in-A′, in-M}
+use Rattle.counting.proofs.Booleans.{true-false}
 use Rattle.counting.proofs.Kept.{found}
 use Rattle.counting.proofs.Range.{up-in, in-up}
-use Rattle.skew.specs.Graph.{Graph, mate, nodes, arcAt, nodesAlong, isReachable, hasPath, classAt, largestOf, mateClass, partNumber, classOf, canonical}
-use Rattle.skew.specs.Paths.{tail, head, Joins, WellFormed}
-use Rattle.skew.specs.Barrier.{isEntry, Barrier}
-use Rattle.skew.proofs.Reachable.{nodes-within}
+use Rattle.skew.proofs.Paths.{nodes-within}
 use Rattle.skew.proofs.AlongPaths.{PathTo, along-reachable}
-use Rattle.skew.proofs.Classes.{fit-from-X, entry-unique, class-largest, barrier}
-use Rattle.skew.proofs.Barrier.{classes-at, no-path-barrier}
+use Rattle.skew.proofs.Classes.{fit-from-X, barrier, X-mate-class, entry-test, test-entry, entries-same, canonical-class, node-class}
+use Rattle.skew.proofs.Barrier.{no-path-barrier}
 
 module _ (g : Graph) (W : WellFormed g) (no-path : hasPath g ≡ false) where
   abbrev Z : ℕ → Bool
@@ -43,18 +43,19 @@ module _ (g : Graph) (W : WellFormed g) (no-path : hasPath g ≡ false) where
     none : Z v ≡ false → Z w ≡ false → class v ≡ 0 → class w ≡ 0 → Classes v w
 
   pub classes-of : (v : ℕ) → v < nodes g → Classes v (mate v)
-  classes-of v h =
-      let c : class v ≡ classOf g v = classes-at g 0 (nodes g) v h ∙ ap (λ (z : ℕ). classOf g z) (omega arith) in
-      let d : class (mate v) ≡ mateClass (class v) = canonical-barrier-of .mate-class v h in
-      by-test (Z v)
-      (λ s. by-test (Z (mate v))
-      (λ t.
-      let e : classOf g v ≡ 3 + partNumber g v = rw (s, t) in
-      both s t (omega arith) (d ∙ rw (ne-eqb (class v) 1 (λ z. omega arith), ne-eqb (class v) 2 (λ z. omega arith))))
-      (λ t. let e : classOf g v ≡ 1 = rw (s, t) in outer s t (c ∙ e) (d ∙ rw (c ∙ e))))
-      (λ s. by-test (Z (mate v))
-      (λ t. let e : classOf g v ≡ 2 = rw (s, t) in inner s t (c ∙ e) (d ∙ rw (c ∙ e)))
-      (λ t. let e : classOf g v ≡ 0 = rw (s, t) in none s t (c ∙ e) (d ∙ rw (c ∙ e))))
+  classes-of v h = go (node-class g v)
+    where
+      c : class v ≡ classOf g v
+      c = canonical-class g v h
+
+      m : class (mate v) ≡ mateClass (class v)
+      m = canonical-barrier-of .mate-class v h
+
+      go : NodeClass g v → Classes v (mate v)
+      go (in-X s t e) = let x : 3 ≤ class v = omega (arith, c, e) in both s t x (m ∙ X-mate-class (class v) x)
+      go (in-A s t e) = outer s t (c ∙ e) (m ∙ rw (c ∙ e))
+      go (in-A′ s t e) = inner s t (c ∙ e) (m ∙ rw (c ∙ e))
+      go (in-M s t e) = none s t (c ∙ e) (m ∙ rw (c ∙ e))
 
   -- a reachable node is in A or in an Xi
   reachable-class : (v : ℕ) → v < nodes g → Z v ≡ true → (class v ≡ 1) ⊎ (3 ≤ class v)
@@ -67,22 +68,11 @@ module _ (g : Graph) (W : WellFormed g) (no-path : hasPath g ≡ false) where
       go (none s t a b) = true-false e s
 
   -- ENTRIES
-  pub record Entry (i c : ℕ) : Type 0 where
-    pub is-arc : i < length (g .arcs)
-    pub is-X : 3 ≤ c
-    pub from-A : class (tail g i) ≡ 1
-    pub into-X : class (head g i) ≡ c
-
-  entry-test : (i c : ℕ) → Entry i c → isEntry (canonical g) c (arcAt g i) ≡ true
-  entry-test i c E = and-both _ _ (eq-eqb _ _ (E .from-A)) (eq-eqb _ _ (E .into-X))
-
-  single : (i c : ℕ) → Entry i c → (j : ℕ) → j < length (g .arcs) → isEntry (canonical g) c (arcAt g j) ≡ true → j ≡ i
-  single i c E j h t =
-      entry-unique (canonical g) c (g .arcs) j i h (E .is-arc) t (entry-test i c E)
-      (canonical-barrier-of .one-entry c (E .is-X) (subst (λ (z : ℕ). z ≤ largestOf (canonical g)) (E .into-X) (class-largest (canonical g) (head g i))))
+  abbrev pub Entry : (i c : ℕ) → Type 0
+  Entry i c = EntryArc g (canonical g) i c
 
   pub entry-one : (i j c : ℕ) → Entry i c → Entry j c → i ≡ j
-  entry-one i j c E F = single j c F i (E .is-arc) (entry-test i c E)
+  entry-one = entries-same g (canonical g) canonical-barrier-of
 
   pub findEntry : ℕ → ℕ
   findEntry c = find (λ (i : ℕ). isEntry (canonical g) c (arcAt g i)) (below (length (g .arcs)))
@@ -91,8 +81,11 @@ module _ (g : Graph) (W : WellFormed g) (no-path : hasPath g ≡ false) where
   unfolding findEntry
   find-entry i c E =
       let m = length (g .arcs) in
-      let f = found (λ (j : ℕ). isEntry (canonical g) c (arcAt g j)) (below m) i (up-in 0 m i (omega arith) (omega (arith, E .is-arc))) (entry-test i c E) in
-      single i c E (findEntry c) (omega (arith, in-up 0 m (findEntry c) (f .0))) (f .1)
+      let f =
+      found (λ (j : ℕ). isEntry (canonical g) c (arcAt g j)) (below m) i (up-in 0 m i (omega arith) (omega (arith, E .is-arc)))
+      (entry-test g (canonical g) i c E) in
+      entry-one (findEntry c) i c
+      (test-entry g (canonical g) (findEntry c) c (omega (arith, in-up 0 m (findEntry c) (f .0))) (E .is-X) (f .1)) E
 
   -- a path leaves A for an Xi only over an entry
   walk : (v w : ℕ) (q : List ℕ) → Joins g v w q → ((x : ℕ) → In x (nodesAlong g v q) → (x < nodes g) × (Z x ≡ true)) → 3 ≤ class w →

@@ -1,6 +1,11 @@
--- Mates of nodes and of arcs: the lowest bit flipped.
+-- Mates of nodes and of arcs: the lowest bit flipped. Assumes nothing.
+--   mate-is                                    the mate by arithmetic
+--   mate-mate, mate-other, mate-inj            an involution without fixed points
+--   mate-below                                 it keeps an even bound
+--   pair-or-other, pair-mate, other-mate       a node is one of a pair or neither, and so its mate
+--   AreMates, arcs-mates                       matesFit: each arc's mate is its neighbour
 use mathlib.Core.Path.{_≡_, refl, sym, ap, _∙_}
-use mathlib.Core.Logic.{_≢_}
+use mathlib.Core.Logic.{_⊎_, inl, inr, _≢_, ⊎-elim}
 use mathlib.Core.Bool.{Bool, true, false}
 use mathlib.Core.List.{List, [], _∷_}
 use Prim.Native.Nat.{ℕ, zero, suc, _+_, _*_, _-_, _%_, _<_}
@@ -11,9 +16,8 @@ use borrow.Author.Tests.{eqb-true, eqb-false}
 use Rattle.counting.specs.Tests.{pick}
 use Rattle.counting.specs.Pairs.{Pair, noPair}
 use Rattle.skew.specs.Graph.{mate, areMates, matesFit}
-use Rattle.counting.proofs.Booleans.{and-left, and-right}
+use Rattle.counting.proofs.Booleans.{and-left, and-right, same-or}
 
--- what a stuck `pick` is, as arithmetic that omega reads
 pub mate-is : (v : ℕ) → mate v ≡ v + 1 - 2 * (v % 2)
 mate-is v = go (eqb (v % 2) 0) refl
   where
@@ -36,7 +40,19 @@ mate-inj v w e = omega (arith, mate-is v, mate-is w)
 pub mate-suc-suc : (v : ℕ) → mate (suc (suc v)) ≡ suc (suc (mate v))
 mate-suc-suc v = omega (arith, mate-is v, mate-is (suc (suc v)))
 
--- matesFit, read at an index
+-- A NODE'S PAIR
+pub pair-or-other : (w u : ℕ) → ((u ≡ w) ⊎ (u ≡ mate w)) ⊎ ((u ≢ w) × (u ≢ mate w))
+pair-or-other w u =
+    ⊎-elim (λ a. inl (inl a)) (λ a. ⊎-elim (λ b. inl (inr b)) (λ b. inr (a, b)) (same-or u (mate w))) (same-or u w)
+
+pub pair-mate : (w u : ℕ) → (u ≡ w) ⊎ (u ≡ mate w) → (mate u ≡ w) ⊎ (mate u ≡ mate w)
+pair-mate w u (inl q) = inr (ap mate q)
+pair-mate w u (inr q) = inl (ap mate q ∙ mate-mate w)
+
+pub other-mate : (w u : ℕ) → (u ≢ w) × (u ≢ mate w) → (mate u ≢ w) × (mate u ≢ mate w)
+other-mate w u o = (λ q. o .1 (sym (mate-mate u) ∙ ap mate q), λ q. o .0 (mate-inj u w q))
+
+-- THE TEST matesFit
 pub record AreMates (x y : Pair) : Type 0 where
   pub first : y .first ≡ mate (x .second)
   pub second : y .second ≡ mate (x .first)
@@ -51,11 +67,12 @@ are-mates x y e =
 are-mates-back : (x y : Pair) → AreMates x y → AreMates y x
 are-mates-back x y h =
     record {
-      first = sym (mate-mate (x .first)) ∙ ap (λ (n : ℕ). mate n) (sym (h .second));
-      second = sym (mate-mate (x .second)) ∙ ap (λ (n : ℕ). mate n) (sym (h .first));
+      first = sym (mate-mate (x .first)) ∙ ap mate (sym (h .second));
+      second = sym (mate-mate (x .second)) ∙ ap mate (sym (h .first));
     }
 
-pub arcs-mates : (xs : List Pair) → matesFit xs ≡ true → length xs % 2 ≡ 0 → (i : ℕ) → i < length xs → AreMates (getD xs i noPair) (getD xs (mate i) noPair)
+pub arcs-mates : (xs : List Pair) → matesFit xs ≡ true → length xs % 2 ≡ 0 → (i : ℕ) → i < length xs →
+    AreMates (getD xs i noPair) (getD xs (mate i) noPair)
 unfolding matesFit
 arcs-mates [] f e i h = absurd (omega arith)
 arcs-mates (x ∷ []) f e i h = absurd (omega arith)

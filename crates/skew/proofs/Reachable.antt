@@ -1,5 +1,8 @@
--- Reachable.
-use mathlib.Core.Path.{_≡_, refl, sym, ap, subst, _∙_}
+-- The trial `isReachable` finds a node exactly where a regular path ends there: a path without repeats fits in its fuel.
+--   Tried g v w ss us p                from v arc by arc to w, to nodes not in ss, over arcs whose mates are not in us
+--   tried-regular, regular-tried       tried from the source: the regular paths
+--   reachable-by-paths                 reachable exactly if some regular path ends there
+use mathlib.Core.Path.{_≡_, refl, sym, subst, _∙_}
 use mathlib.Core.Logic.{_⊎_, inl, inr, ⊎-elim}
 use mathlib.Core.Bool.{Bool, true, _&&_, not}
 use mathlib.Core.List.{List, [], _∷_}
@@ -9,17 +12,17 @@ use lib.Dec.{eqb}
 use lib.ListN.{length}
 use borrow.Author.Tests.{eqb-true, eq-eqb}
 use Rattle.counting.specs.Tests.{any, among, below}
-use Rattle.counting.specs.Lists.{In, Within, Distinct}
+use Rattle.counting.specs.Lists.{In, Distinct}
 use Rattle.skew.specs.Graph.{Graph, mate, nodes, nodesAlong, endOf, isRegular, reachesFrom, isReachable}
 use Rattle.skew.specs.Paths.{tail, head, Joins, Unmated, WellFormed}
+use Rattle.skew.specs.Steps.{within}
 use Rattle.skew.specs.Promise.{SomePath, ReachesByPathsIn}
-use Rattle.counting.proofs.Booleans.{and-left, and-right, and-both, or-right, or-cases}
+use Rattle.counting.proofs.Booleans.{and-four, and-both, or-right, or-cases}
 use Rattle.counting.proofs.Membership.{any-some, some-any, not-among-out, out-not-among}
 use Rattle.counting.proofs.Range.{up-in, in-up, pigeonhole}
 use Rattle.skew.proofs.Mates.{mate-mate, mate-other}
-use Rattle.skew.proofs.Paths.{regular-path, path-regular, nodes-cons}
+use Rattle.skew.proofs.Paths.{regular-path, path-regular, nodes-cons, nodes-within, length-nodes}
 
--- what the search tries, arc by arc
 abbrev pub Tried : Graph → (v w : ℕ) → (ss us : List ℕ) → List ℕ → Type 0
 Tried g v w ss us [] = v ≡ w
 Tried g v w ss us (i ∷ is) =
@@ -43,15 +46,16 @@ module _ (g : Graph) (w : ℕ) where
       go ih (inr b) =
           let r = any-some (tries n v ss us) (below (length (g .arcs))) b in
           let i = r .0 in
-          let h₁ = and-left (eqb (tail g i) v && not (among (head g i) ss) && not (among (mate i) us)) _ (r .2) in
-          let h₂ = and-left (eqb (tail g i) v && not (among (head g i) ss)) _ h₁ in
-          let rest = ih (head g i) (head g i ∷ ss) (i ∷ us) (and-right (eqb (tail g i) v && not (among (head g i) ss) && not (among (mate i) us)) _ (r .2)) in (
+          let y = head g i in
+          let t =
+          and-four (eqb (tail g i) v) (not (among y ss)) (not (among (mate i) us)) (reachesFrom n g y w (y ∷ ss) (i ∷ us)) (r .2) in
+          let rest = ih y (y ∷ ss) (i ∷ us) (t .3) in (
             i ∷ rest .0,
             (
               omega (arith, in-up 0 (length (g .arcs)) i (r .1)),
-              eqb-true _ _ (and-left _ (not (among (head g i) ss)) h₂),
-              not-among-out (head g i) ss (and-right (eqb (tail g i) v) _ h₂),
-              not-among-out (mate i) us (and-right (eqb (tail g i) v && not (among (head g i) ss)) _ h₁),
+              eqb-true _ _ (t .0),
+              not-among-out y ss (t .1),
+              not-among-out (mate i) us (t .2),
               rest .1,
             ),
           )
@@ -67,7 +71,7 @@ module _ (g : Graph) (w : ℕ) where
       (and-both _ _ (and-both _ _ (and-both _ _ (eq-eqb _ _ (t .1)) (out-not-among _ ss (t .2))) (out-not-among _ us (t .3)))
       (tried-reaches n (head g i) (head g i ∷ ss) (i ∷ us) is (omega arith) (t .4))))
 
-  -- what was tried is a simple path that avoids what was seen before, and back
+  -- what was tried is a regular path that avoids what was seen before, and back
   record Avoids (v : ℕ) (ss us is : List ℕ) : Type 0 where
     pub joins : Joins g v w is
     pub once : Distinct (nodesAlong g v is)
@@ -91,7 +95,9 @@ module _ (g : Graph) (w : ℕ) where
       record {
         joins = (t .0, t .1, r .joins);
         once = (λ m. t .2 (subst (λ (k : ℕ). In k ss) (r .fresh v (inr s) m) s), r .once);
-        unmated = λ x. ⊎-elim (λ e. ⊎-elim (λ k. mate-other x (k ∙ sym e)) (λ n. r .unused (mate x) n (inl (mate-mate x ∙ e)))) (λ m. ⊎-elim (λ k. r .unused x m (inl k)) (λ n. r .unmated x m n));
+        unmated = λ x.
+            ⊎-elim (λ e. ⊎-elim (λ k. mate-other x (k ∙ sym e)) (λ n. r .unused (mate x) n (inl (mate-mate x ∙ e))))
+            (λ m. ⊎-elim (λ k. r .unused x m (inl k)) (λ n. r .unmated x m n));
         fresh = λ x m. ⊎-elim (λ e. e) (λ n. absurd (t .2 (subst (λ (k : ℕ). In k ss) (r .fresh x (inr m) n) m)));
         unused = λ j. ⊎-elim (λ e n. t .3 (subst (λ (k : ℕ). In (mate k) us) e n)) (λ m n. r .unused j m (inr n));
       }
@@ -118,7 +124,7 @@ module _ (g : Graph) (w : ℕ) where
       back : {x : ℕ} → x ≡ v → In x (nodesAlong g (head g i) is) → ⊥
       back e m = a .once .0 (subst (λ (k : ℕ). In k (nodesAlong g (head g i) is)) e m)
 
--- from the source: what was tried is a regular path, and back
+-- from the source
 module _ (g : Graph) (w : ℕ) (is : List ℕ) where
   pub tried-regular : Tried g (g .source) w (g .source ∷ []) [] is → (isRegular g is ≡ true) × (endOf g (g .source) is ≡ w)
   tried-regular t =
@@ -137,34 +143,21 @@ module _ (g : Graph) (w : ℕ) (is : List ℕ) where
         unused = λ i m n. n;
       })
 
-pub nodes-within : (g : Graph) (n a v : ℕ) (p : List ℕ) → ((i : ℕ) → i < length (g .arcs) → head g i < n) → a < n → Joins g a v p →
-    Within (λ (x : ℕ). x < n) (nodesAlong g a p)
-unfolding nodesAlong
-nodes-within g n a v [] h l j x = ⊎-elim (λ e. omega arith) (λ b. absurd b)
-nodes-within g n a v (i ∷ is) h l j x = ⊎-elim (λ e. omega arith) (nodes-within g n (head g i) v is h (h i (j .0)) (j .2) x)
-
-pub length-nodes : (g : Graph) (a : ℕ) (p : List ℕ) → length (nodesAlong g a p) ≡ suc (length p)
-unfolding nodesAlong
-length-nodes g a [] = refl
-length-nodes g a (i ∷ is) = ap suc (length-nodes g (head g i) is)
-
 pub reachable-by-paths : (g : Graph) → WellFormed g → ReachesByPathsIn g
 reachable-by-paths g wf w = (there, here)
   where
-    s : ℕ
-    s = g .source
-
     there : isReachable g w ≡ true → SomePath g w
     there e = let r = reaches-tried g w (nodes g) (g .source) (g .source ∷ []) [] e in (r .0, tried-regular g w (r .0) (r .1))
 
     here : SomePath g w → isReachable g w ≡ true
     here k =
+        let s = g .source in
         let p = k .0 in
         let P = regular-path g p (k .1 .0) in
         let short : length p ≤ nodes g =
         omega (
           arith,
-          length-nodes g (g .source) p,
-          pigeonhole (nodes g) (nodesAlong g (g .source) p) (P .once) (nodes-within g (nodes g) (g .source) _ p (wf .head-node) (wf .source-node) (P .joins)),
+          length-nodes g s p,
+          pigeonhole (nodes g) (nodesAlong g s p) (P .once) (nodes-within g (nodes g) s _ p (wf .head-node) (wf .source-node) (P .joins)),
         ) in
-        tried-reaches g w (nodes g) (g .source) (g .source ∷ []) [] p short (regular-tried g w p (k .1 .0) (k .1 .1))
+        tried-reaches g w (nodes g) s (s ∷ []) [] p short (regular-tried g w p (k .1 .0) (k .1 .1))

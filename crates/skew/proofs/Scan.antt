@@ -1,4 +1,8 @@
--- Scan.
+-- Looking at arcs: each asks for its step when it is looked at; when the arcs of all reached nodes were looked at, the state is closed.
+--   looked-none, looked-fewer      at no arc yet; at fewer arcs
+--   looked-more                    at one arc more, after its step
+--   looked-closed                  at every arc of a reached node: the state is closed
+--   scan-start, scan-switch, scan-skip, scan-look, scan-done, scan-closed      the same, node by node
 use mathlib.Core.Path.{_≡_, sym, ap, subst, _∙_}
 use mathlib.Core.Logic.{_⊎_, inl, inr, _≢_, ⊎-elim}
 use mathlib.Core.Bool.{Bool, true}
@@ -9,7 +13,7 @@ use Rattle.skew.specs.Graph.{Graph, mate}
 use Rattle.skew.specs.Paths.{tail, head, SkewSymmetric, WellFormed}
 use Rattle.skew.specs.Search.{State, Invariant}
 use Rattle.skew.specs.Steps.{SettledArc, Touched, Closed}
-use Rattle.skew.specs.Scan.{LookedAt, Scanning}
+use Rattle.skew.specs.Scan.{Looked, Scanning}
 use Rattle.counting.proofs.Booleans.{same-or}
 use Rattle.skew.proofs.Mates.{mate-mate}
 use Rattle.skew.proofs.Paths.{mate-arc}
@@ -19,83 +23,94 @@ module _ (g : Graph) (wf : WellFormed g) where
   abbrev d : SkewSymmetric g
   d = wf .symmetric
 
-  -- another node's arc is passed over
-  pub scan-skip : (st : State) (T : ℕ → Bool) (x a : ℕ) → tail g a ≢ x → Scanning g st T x a → Scanning g st T x (a + 1)
-  scan-skip st T x a n S =
-      record { reached = S .reached; touched = λ i h s. S .touched i h (less i s); settled = λ i h s t. S .settled i h (less i s) (less (mate i) t) }
-    where
-      less : (i : ℕ) → LookedAt g T x (a + 1) i → LookedAt g T x a i
-      less i (inl t) = inl t
-      less i (inr t) = ⊎-elim (λ (q : i ≡ a). absurd (n (ap (λ (z : ℕ). tail g z) (sym q) ∙ t .0))) (λ q. inr (t .0, omega (arith, t .1))) (same-or i a)
+  pub looked-none : {looked : ℕ → Type 0} (st : State) → ((i : ℕ) → i < length (g .arcs) → looked i → ⊥) → Looked g st looked
+  looked-none st none =
+      record {
+        reached = λ i h s. absurd (none i h s);
+        touched = λ i h s. absurd (none i h s);
+        settled = λ i h s t. absurd (none i h s);
+      }
 
-  -- the arc at hand was looked at
-  module _ (st new : State) (I : Invariant g new) (T : ℕ → Bool) (x a : ℕ) (lx : st .reached x ≡ true) (S : Scanning g st T x a)
-      (more : (u : ℕ) → st .reached u ≡ true → new .reached u ≡ true) (still : (j : ℕ) → j < length (g .arcs) → SettledArc g st j → SettledArc g new j)
-      (touch : Touched g new a) (settle : st .reached (mate (head g a)) ≡ true → SettledArc g new a) where
-    looked-reached : (i b : ℕ) → LookedAt g T x b i → st .reached (tail g i) ≡ true
-    looked-reached i b (inl t) = S .reached (tail g i) t
-    looked-reached i b (inr t) = rw (t .0) lx
+  pub looked-fewer : {looked looked′ : ℕ → Type 0} (st : State) → ((i : ℕ) → i < length (g .arcs) → looked′ i → looked i) → Looked g st looked →
+      Looked g st looked′
+  looked-fewer st less L =
+      record {
+        reached = λ i h s. L .reached i h (less i h s);
+        touched = λ i h s. L .touched i h (less i h s);
+        settled = λ i h s t. L .settled i h (less i h s) (less (mate i) (mate-arc g d i h .0) t);
+      }
 
-    looked-less : (i : ℕ) → i ≢ a → LookedAt g T x (a + 1) i → LookedAt g T x a i
-    looked-less i n (inl t) = inl t
-    looked-less i n (inr t) = inr (t .0, omega (arith, t .1, n))
+  -- the arc a was looked at and its step taken; what is reached and settled stays so
+  module _ {looked looked′ : ℕ → Type 0} (st new : State) (I : Invariant g new) (a : ℕ)
+      (more : (i : ℕ) → looked′ i → looked i ⊎ (i ≡ a)) (la : st .reached (tail g a) ≡ true) (L : Looked g st looked)
+      (stay : (u : ℕ) → st .reached u ≡ true → new .reached u ≡ true)
+      (still : (j : ℕ) → j < length (g .arcs) → SettledArc g st j → SettledArc g new j) (touch : Touched g new a)
+      (settle : st .reached (mate (head g a)) ≡ true → SettledArc g new a) where
+    tail-reached : (i : ℕ) → i < length (g .arcs) → looked′ i → st .reached (tail g i) ≡ true
+    tail-reached i h s = ⊎-elim (L .reached i h) (λ q. rw q la) (more i s)
 
-    here : a < length (g .arcs) → LookedAt g T x (a + 1) (mate a) → SettledArc g new a
-    here h t = settle (subst (λ (y : ℕ). st .reached y ≡ true) (mate-arc g d a h .1) (looked-reached (mate a) (a + 1) t))
+    here : (i : ℕ) → i < length (g .arcs) → looked′ (mate i) → i ≡ a → SettledArc g new i
+    here i h t q =
+        let r = mate-arc g d i h in
+        let m : st .reached (mate (head g i)) ≡ true = subst (λ (y : ℕ). st .reached y ≡ true) (r .1) (tail-reached (mate i) (r .0) t) in
+        subst (λ (k : ℕ). SettledArc g new k) (sym q) (settle (rw q at m))
 
-    pub scan-look : Scanning g new T x (a + 1)
-    scan-look =
+    there : (i : ℕ) → i < length (g .arcs) → looked′ i → mate i ≡ a → SettledArc g new i
+    there i h s q =
+        let k = mate-arc g d i h .0 in
+        subst (λ (j : ℕ). SettledArc g new j) (mate-mate i)
+        (settled-mate g d new I (mate i) k (here (mate i) k (subst looked′ (sym (mate-mate i)) s) q))
+
+    pub looked-more : Looked g new looked′
+    looked-more =
         record {
-          reached = λ u t. more u (S .reached u t);
+          reached = λ i h s. stay (tail g i) (tail-reached i h s);
           touched = λ i h s.
-              ⊎-elim (λ (q : i ≡ a). rw q touch)
-              (λ n. ⊎-elim (λ l. inl (more (head g i) l)) (λ l. inr (more (mate (head g i)) l)) (S .touched i h (looked-less i n s))) (same-or i a);
-          settled = λ i h s t.
-              ⊎-elim (λ (q : i ≡ a). subst (λ (y : ℕ). SettledArc g new y) (sym q) (here (rw q at h) (rw q at t)))
-              (λ n.
               ⊎-elim
-              (λ (q : mate i ≡ a).
-              let e : i ≡ mate a = sym (mate-mate i) ∙ ap (λ (z : ℕ). mate z) q in
-              let ha : a < length (g .arcs) = rw q at (mate-arc g d i h .0) in
-              subst (λ (y : ℕ). SettledArc g new y) (sym e) (settled-mate g d new I a ha (here ha (rw e at s))))
-              (λ m. still i h (S .settled i h (looked-less i n s) (looked-less (mate i) m t))) (same-or (mate i) a)) (same-or i a);
+              (λ t. ⊎-elim (λ l. inl (stay (head g i) l)) (λ l. inr (stay (mate (head g i)) l)) (L .touched i h t))
+              (λ q. rw q touch) (more i s);
+          settled = λ i h s t.
+              ⊎-elim (λ p. ⊎-elim (λ q. still i h (L .settled i h p q)) (there i h s) (more (mate i) t)) (here i h t) (more i s);
         }
 
-  -- the node's last arc is behind: it is scanned
-  pub scan-done : (st : State) (T T′ : ℕ → Bool) (x y : ℕ) → ((u : ℕ) → T′ u ≡ true → (T u ≡ true) ⊎ (u ≡ x)) → st .reached x ≡ true →
-      Scanning g st T x (length (g .arcs)) → Scanning g st T′ y 0
-  scan-done st T T′ x y back l S =
+  pub looked-closed : {looked : ℕ → Type 0} (st : State) → ((i : ℕ) → i < length (g .arcs) → st .reached (tail g i) ≡ true → looked i) →
+      Looked g st looked → Closed g st
+  looked-closed st every L =
       record {
-        reached = λ u t. ⊎-elim (S .reached u) (λ (q : u ≡ x). rw q l) (back u t);
-        touched = λ i h s. S .touched i h (was i h s);
-        settled = λ i h s t. S .settled i h (was i h s) (was (mate i) (mate-arc g d i h .0) t);
+        touched = λ i h l. L .touched i h (every i h l);
+        settled = λ i h l m.
+            let r = mate-arc g d i h in
+            L .settled i h (every i h l) (every (mate i) (r .0) (subst (λ (y : ℕ). st .reached y ≡ true) (sym (r .1)) m)) .settled;
       }
-    where
-      was : (i : ℕ) → i < length (g .arcs) → LookedAt g T′ y 0 i → LookedAt g T x (length (g .arcs)) i
-      was i h (inl t) = ⊎-elim (λ k. inl k) (λ k. inr (k, h)) (back (tail g i) t)
-      was i h (inr t) = absurd (omega (arith, t .1))
+
+  -- NODE BY NODE
+  pub scan-start : (st : State) (T : ℕ → Bool) (x : ℕ) → ((u : ℕ) → T u ≡ true → ⊥) → Scanning g st T x 0
+  scan-start st T x none = looked-none st (λ i h. ⊎-elim (none (tail g i)) (λ t. omega (arith, t .1)))
 
   -- before a node's first arc
   pub scan-switch : (st : State) (T : ℕ → Bool) (x y : ℕ) → Scanning g st T x 0 → Scanning g st T y 0
-  scan-switch st T x y S =
-      record { reached = S .reached; touched = λ i h s. S .touched i h (was i s); settled = λ i h s t. S .settled i h (was i s) (was (mate i) t) }
-    where
-      was : (i : ℕ) → LookedAt g T y 0 i → LookedAt g T x 0 i
-      was i (inl t) = inl t
-      was i (inr t) = absurd (omega (arith, t .1))
+  scan-switch st T x y = looked-fewer st (λ i h. ⊎-elim (λ t. inl t) (λ t. absurd (omega (arith, t .1))))
 
-  pub scan-start : (st : State) (T : ℕ → Bool) (x : ℕ) → ((u : ℕ) → T u ≡ true → ⊥) → Scanning g st T x 0
-  scan-start st T x none =
-      record { reached = λ u t. absurd (none u t); touched = λ i h s. absurd (nothing i s); settled = λ i h s t. absurd (nothing i s) }
-    where
-      nothing : (i : ℕ) → LookedAt g T x 0 i → ⊥
-      nothing i (inl t) = none (tail g i) t
-      nothing i (inr t) = omega (arith, t .1)
+  -- another node's arc is passed over
+  pub scan-skip : (st : State) (T : ℕ → Bool) (x a : ℕ) → tail g a ≢ x → Scanning g st T x a → Scanning g st T x (a + 1)
+  scan-skip st T x a n =
+      looked-fewer st
+      (λ i h. ⊎-elim (λ t. inl t)
+      (λ t. ⊎-elim (λ (q : i ≡ a). absurd (n (ap (tail g) (sym q) ∙ t .0))) (λ q. inr (t .0, omega (arith, t .1))) (same-or i a)))
+
+  pub scan-look : (st new : State) → Invariant g new → (T : ℕ → Bool) (x a : ℕ) → tail g a ≡ x → st .reached x ≡ true → Scanning g st T x a →
+      ((u : ℕ) → st .reached u ≡ true → new .reached u ≡ true) →
+      ((j : ℕ) → j < length (g .arcs) → SettledArc g st j → SettledArc g new j) → Touched g new a →
+      (st .reached (mate (head g a)) ≡ true → SettledArc g new a) → Scanning g new T x (a + 1)
+  scan-look st new I T x a e lx =
+      looked-more st new I a
+      (λ i. ⊎-elim (λ t. inl (inl t)) (λ t. ⊎-elim (λ q. inr q) (λ q. inl (inr (t .0, omega (arith, t .1, q)))) (same-or i a))) (rw e lx)
+
+  -- the node's last arc is behind: it is scanned
+  pub scan-done : (st : State) (T T′ : ℕ → Bool) (x y : ℕ) → ((u : ℕ) → T′ u ≡ true → (T u ≡ true) ⊎ (u ≡ x)) →
+      Scanning g st T x (length (g .arcs)) → Scanning g st T′ y 0
+  scan-done st T T′ x y back =
+      looked-fewer st (λ i h. ⊎-elim (λ t. ⊎-elim (λ k. inl k) (λ k. inr (k, h)) (back (tail g i) t)) (λ t. absurd (omega (arith, t .1))))
 
   pub scan-closed : (st : State) (T : ℕ → Bool) (x : ℕ) → ((u : ℕ) → st .reached u ≡ true → T u ≡ true) → Scanning g st T x 0 → Closed g st
-  scan-closed st T x every S =
-      record {
-        touched = λ i h l. S .touched i h (inl (every (tail g i) l));
-        settled = λ i h l m.
-            S .settled i h (inl (every (tail g i) l)) (inl (every (tail g (mate i)) (subst (λ (y : ℕ). st .reached y ≡ true) (sym (mate-arc g d i h .1)) m))) .settled;
-      }
+  scan-closed st T x every = looked-closed st (λ i h l. inl (every (tail g i) l))

@@ -31,7 +31,7 @@ module _ {g : Graph} {reached : ℕ → Bool} {via : ℕ → ℕ} where
       Seg g reached via s x p → Seg g reached via (mate v) y q → Seg g reached via s v (p ++ e ∷ reverseMap mate q)
   seg-step s v e x y p q l n k h f i A B =
       subst (λ (z : ℕ). Seg g reached via s v (p ++ z ∷ reverseMap mate q)) k
-      (step l n (rw k h) (subst (λ (z : ℕ). Seg g reached via s z p) (sym (ap (λ (z : ℕ). tail g z) k ∙ f)) A)
+      (step l n (rw k h) (subst (λ (z : ℕ). Seg g reached via s z p) (sym (ap (tail g) k ∙ f)) A)
       (subst (λ (z : ℕ). Seg g reached via (mate v) z q) (sym (ap (λ (z : ℕ). mate (head g z)) k ∙ i)) B))
 
   pub seg-joins : SkewSymmetric g → {s v : ℕ} {p : List ℕ} → Seg g reached via s v p → Joins g s v p

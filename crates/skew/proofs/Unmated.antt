@@ -1,4 +1,7 @@
--- Arcs without their mates.
+-- Lists of arcs in which none stands with its mate. Assumes nothing.
+--   no-mates-unmated, unmated-no-mates      the test noMates
+--   unmated-reverse                         all mated and reversed
+--   unmated-append                          two such lists, none of the second the mate of one of the first
 use mathlib.Core.Path.{_≡_, refl, sym, ap, subst, _∙_}
 use mathlib.Core.Logic.{_⊎_, inl, inr}
 use mathlib.Core.Bool.{true, not}
@@ -19,7 +22,7 @@ no-mates-unmated [] e x m n = m
 no-mates-unmated (y ∷ ys) e x (inl p) (inl q) = mate-other x (q ∙ sym p)
 no-mates-unmated (y ∷ ys) e x (inl p) (inr n) = not-among-out (mate y) ys (and-left _ _ e) (subst (λ (k : ℕ). In (mate k) ys) p n)
 no-mates-unmated (y ∷ ys) e x (inr m) (inl q) =
-    not-among-out (mate y) ys (and-left _ _ e) (subst (λ (k : ℕ). In k ys) (sym (mate-mate x) ∙ ap (λ (k : ℕ). mate k) q) m)
+    not-among-out (mate y) ys (and-left _ _ e) (subst (λ (k : ℕ). In k ys) (sym (mate-mate x) ∙ ap mate q) m)
 no-mates-unmated (y ∷ ys) e x (inr m) (inr n) = no-mates-unmated ys (and-right (not (among (mate y) ys)) _ e) x m n
 
 pub unmated-no-mates : (xs : List ℕ) → Unmated xs → noMates xs ≡ true
@@ -32,7 +35,7 @@ pub unmated-reverse : (xs : List ℕ) → Unmated xs → Unmated (reverseMap mat
 unmated-reverse xs u x m n =
     let r = in-reverse mate x xs m in
     let s = in-reverse mate (mate x) xs n in
-    u (r .0) (r .1) (subst (λ (k : ℕ). In k xs) (mate-inj (s .0) (mate (r .0)) (sym (s .2) ∙ ap (λ (k : ℕ). mate k) (r .2))) (s .1))
+    u (r .0) (r .1) (subst (λ (k : ℕ). In k xs) (mate-inj (s .0) (mate (r .0)) (sym (s .2) ∙ ap mate (r .2))) (s .1))
 
 pub unmated-append : (xs ys : List ℕ) → Unmated xs → Unmated ys → Apart (reverseMap mate xs) ys → Unmated (xs ++ ys)
 unmated-append xs ys u w a x m n = go (in-append x xs ys m) (in-append (mate x) xs ys n)

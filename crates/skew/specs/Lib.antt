@@ -7,6 +7,7 @@
 --   Measure     a number that every step lowers
 --   Ascent      how the bud of an arc is found
 --   Scan        the order in which arcs are looked at
+--   Forest      the forest of buds
 --   Barrier     barriers as a type
 --   Promise     what is promised of every well-formed graph
 pub mod Graph
@@ -17,5 +18,6 @@ pub mod Steps
 pub mod Measure
 pub mod Ascent
 pub mod Scan
+pub mod Forest
 pub mod Barrier
 pub mod Promise

@@ -3,6 +3,8 @@
 --   Joins g a v p            the arcs p lead from node a to node v
 --   Unmated p                no arc of p stands in p with its mate
 --   RegularPath g S a v p    p is a regular path from a to v with all nodes in the set S
+--   MateClosed S             with a node its mate is in S
+--   Disjoint S R             no node is in both
 --   SkewSymmetric g          arcs come in pairs of mates
 --   WellFormed g             skew-symmetric, each arc between nodes of the graph, the source a node
 use mathlib.Core.Path.{_≡_}
@@ -32,6 +34,12 @@ pub record RegularPath (g : Graph) (S : ℕ → Type 0) (a v : ℕ) (p : List �
   pub within : Within S (nodesAlong g a p)
   pub once : Distinct (nodesAlong g a p)
   pub unmated : Unmated p
+
+abbrev pub MateClosed : (ℕ → Type 0) → Type 0
+MateClosed S = (v : ℕ) → S v → S (mate v)
+
+abbrev pub Disjoint : (S R : ℕ → Type 0) → Type 0
+Disjoint S R = (v : ℕ) → S v → R v → ⊥
 
 pub record SkewSymmetric (g : Graph) : Type 0 where
   pub mates-fit : matesFit (g .arcs) ≡ true

@@ -13,12 +13,11 @@
 use mathlib.Core.Path.{_≡_}
 use mathlib.Core.Logic.{_⊎_, _≢_}
 use mathlib.Core.Bool.{Bool, true, false}
-use mathlib.Core.List.{List}
 use Prim.Native.Nat.{ℕ, _-_, _%_, _≤_, _<_}
 use lib.ListN.{length}
 use Rattle.skew.specs.Graph.{Graph, mate}
-use Rattle.skew.specs.Paths.{tail, head, RegularPath}
-use Rattle.skew.specs.Segments.{Seg}
+use Rattle.skew.specs.Paths.{tail, head}
+use Rattle.skew.specs.Segments.{LabelledPath}
 
 pub record State : Type 0 where
   pub reached : ℕ → Bool
@@ -68,8 +67,7 @@ pub record Invariant (g : Graph) (st : State) : Type 0 where
   -- a reached node's base is reached and its own base
   pub base-base : (u : ℕ) → st .reached u ≡ true → IsBase st (st .base u)
   -- the labels give a regular path from the base to each reached node, within the fragment
-  pub path : (u : ℕ) → st .reached u ≡ true →
-      (p : List ℕ) × RegularPath g (InFragment st (st .base u)) (st .base u) u p × Seg g (st .reached) (st .via) (st .base u) u p
+  pub path : (u : ℕ) → st .reached u ≡ true → LabelledPath g (InFragment st (st .base u)) (st .reached) (st .via) (st .base u) u
   -- all of a reached fragment is reached, but for the base's mate of a plain one
   pub whole : (b u : ℕ) → IsBase st b → st .base u ≡ b → (st .reached u ≡ true) ⊎ (Plain st b × (u ≡ mate b))
   -- fragments are joined to earlier ones by their bases' arcs

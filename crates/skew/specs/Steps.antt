@@ -6,18 +6,18 @@
 --   Absorbable g st C b via                what makes that step right: the labels give regular paths within the new bud
 --   Settled g st i                         within one bud, or a base arc, or the mate of one
 --   SettledArc g st i                      settled, with tail and head's mate reached
+--   SettledKind g st i                     the three ways: within a bud, into a base, out of a base's mate
 --   Touched g st i                         the arc's head or the head's mate is reached
 --   Closed g st                            every arc of a reached node is touched, and settled where the head's mate is reached
 use mathlib.Core.Path.{_≡_}
 use mathlib.Core.Logic.{_⊎_, _≢_}
 use mathlib.Core.Bool.{Bool, true, false, _||_}
-use mathlib.Core.List.{List}
 use Prim.Native.Nat.{ℕ, suc, _≤_, _<_}
 use lib.Dec.{eqb}
 use lib.ListN.{length}
 use Rattle.skew.specs.Graph.{Graph, mate}
-use Rattle.skew.specs.Paths.{tail, head, RegularPath}
-use Rattle.skew.specs.Segments.{Seg}
+use Rattle.skew.specs.Paths.{tail, head}
+use Rattle.skew.specs.Segments.{LabelledPath}
 use Rattle.skew.specs.Search.{State, IsBase, ReachedEnds}
 
 pub record TreeStep (g : Graph) (st : State) (e : ℕ) (new : State) : Type 0 where
@@ -58,10 +58,8 @@ pub record Absorbable (g : Graph) (st : State) (C : ℕ → Bool) (b : ℕ) (via
   pub bases : (c : ℕ) → C c ≡ true → IsBase st c
   pub not-source : (c : ℕ) → C c ≡ true → c ≢ g .source
   pub births : (c : ℕ) → C c ≡ true → st .birth b ≤ st .birth c
-  pub path : (u : ℕ) → C (st .base u) ≡ true →
-      (p : List ℕ) × RegularPath g (InUnion st C b) b u p × Seg g (reachedAfter st C b) via b u p
-  pub path-mate : (st .reached (mate b) ≡ true) ⊎
-      ((p : List ℕ) × RegularPath g (InUnion st C b) b (mate b) p × Seg g (reachedAfter st C b) via b (mate b) p)
+  pub path : (u : ℕ) → C (st .base u) ≡ true → LabelledPath g (InUnion st C b) (reachedAfter st C b) via b u
+  pub path-mate : (st .reached (mate b) ≡ true) ⊎ LabelledPath g (InUnion st C b) (reachedAfter st C b) via b (mate b)
 
 abbrev pub Settled : Graph → State → (arc : ℕ) → Type 0
 Settled g st i =
@@ -72,6 +70,11 @@ pub record SettledArc (g : Graph) (st : State) (i : ℕ) : Type 0 where
   pub tail-reached : st .reached (tail g i) ≡ true
   pub mate-reached : st .reached (mate (head g i)) ≡ true
   pub settled : Settled g st i
+
+pub data SettledKind (g : Graph) (st : State) (i : ℕ) : Type 0 where
+  within : st .base (tail g i) ≡ st .base (head g i) → st .reached (head g i) ≡ true → st .reached (mate (tail g i)) ≡ true → SettledKind g st i
+  enters : IsBase st (head g i) → i ≡ st .via (head g i) → SettledKind g st i
+  leaves : IsBase st (mate (tail g i)) → mate i ≡ st .via (mate (tail g i)) → SettledKind g st i
 
 abbrev pub Touched : Graph → State → (arc : ℕ) → Type 0
 Touched g st i = (st .reached (head g i) ≡ true) ⊎ (st .reached (mate (head g i)) ≡ true)
