@@ -19,7 +19,7 @@ use Rattle.counting.proofs.Reversal.{reverse-append}
 use Rattle.skew.proofs.Mates.{mate-mate}
 use Rattle.skew.proofs.Paths.{nodes-cons, mate-arc}
 use Rattle.skew.proofs.RegularPaths.{path-widen, concat, mate-reverse}
-use Rattle.skew.proofs.Segments.{seg-step, turns-nodes, seg-mono, seg-compose}
+use Rattle.skew.proofs.Segments.{seg-step, spine-nodes, seg-mono, seg-compose}
 use Rattle.skew.proofs.SourcePaths.{later-not-source}
 use Rattle.skew.proofs.Mirror.{bridge-ends}
 
@@ -98,7 +98,7 @@ module _ (g : Graph) (d : SkewSymmetric g) (st : State) (I : Invariant g st) (C 
         let at-c : Seg g (N .reached′) (N .via′) a c (p ++ st .via c ∷ []) =
         seg-step a c (st .via c) x (mate c) p [] (k .0) (n c (base-c .self)) (k .1) (arc-c .is-arc) refl (ap mate (arc-c .head-is)) s done in
         rw (← (append-assoc p (st .via c ∷ []) (local .0)))
-        (seg-compose (kept N) S (λ m. n a (local .1 .within a (turns-nodes d S a m)) refl) at-c)
+        (seg-compose (kept N) S (λ m. n a (local .1 .within a (spine-nodes d S a m)) refl) at-c)
 
     into-fragment : ReachesInto g st C′ via′ x u
     into-fragment = (

@@ -17,9 +17,9 @@ use Rattle.skew.specs.Paths.{tail, head, WellFormed}
 use Rattle.skew.specs.Barrier.{Barrier, EntryArc}
 use Rattle.counting.proofs.Booleans.{and-two, by-test, same-or}
 use Rattle.skew.proofs.Mates.{mate-mate}
-use Rattle.skew.proofs.Paths.{regular-path, mate-arc, tail-node}
+use Rattle.skew.proofs.Paths.{regular-path}
 use Rattle.skew.proofs.RegularPaths.{along-path}
-use Rattle.skew.proofs.Classes.{fit-from-A, fit-from-X, barrier, X-mate-class, entries-same}
+use Rattle.skew.proofs.Classes.{fit-from-A, fit-from-X, barrier, entries-same, exit-entry}
 
 module _ (g : Graph) (wf : WellFormed g) (cs : List ℕ) (B : Barrier g cs) where
   abbrev class : ℕ → ℕ
@@ -29,18 +29,10 @@ module _ (g : Graph) (wf : WellFormed g) (cs : List ℕ) (B : Barrier g cs) wher
   abbrev Stands : ℕ → List ℕ → Type 0
   Stands v p = (class v ≡ 1) ⊎ ((f : ℕ) × EntryArc g cs f (class v) × (In (mate f) p → ⊥))
 
-  -- an arc from an Xi to A' is the mate of the entry
+  -- leaving the Xi for A' takes the mate of the entry
   leaves : (i f : ℕ) → i < length (g .arcs) → EntryArc g cs f (class (tail g i)) → class (head g i) ≡ 2 → mate f ≡ i
   leaves i f h E two =
-      let r = mate-arc g (wf .symmetric) i h in
-      let F : EntryArc g cs (mate i) (class (tail g i)) =
-      record {
-        is-arc = r .0;
-        is-X = E .is-X;
-        from-A = rw (r .1, B .mate-class (head g i) (wf .head-node i h), two);
-        into-X = rw (r .2, B .mate-class (tail g i) (tail-node g wf i h), X-mate-class (class (tail g i)) (E .is-X));
-      } in
-      ap mate (entries-same g cs B f (mate i) (class (tail g i)) E F) ∙ mate-mate i
+      ap mate (entries-same g cs B f (mate i) (class (tail g i)) E (exit-entry g wf cs B i h (E .is-X) two)) ∙ mate-mate i
 
   move : (i : ℕ) (is : List ℕ) → i < length (g .arcs) → (In (mate i) is → ⊥) → Stands (tail g i) (i ∷ is) → Stands (head g i) is
   move i is h free (inl a) =

@@ -22,13 +22,14 @@ use Rattle.skew.specs.Paths.{tail, head, Joins, WellFormed}
 use Rattle.skew.specs.Search.{State, BaseArc, Invariant}
 use Rattle.skew.specs.Steps.{Closed}
 use Rattle.skew.specs.Forest.{BothReached, BudBase, entryTail, rootOf}
+use Rattle.skew.specs.Parts.{PartClosed}
 use Rattle.counting.proofs.Booleans.{and-two, and-both, by-test, same-or}
 use Rattle.counting.proofs.Kept.{in-keep, keep-in, keep-distinct}
 use Rattle.counting.proofs.Range.{up-in, distinct-up}
 use Rattle.counting.proofs.Numbering.{number, number-lt, number-find}
 use Rattle.skew.proofs.Paths.{nodes-cons}
 use Rattle.skew.proofs.Exact.{reached-node, reachable-is}
-use Rattle.skew.proofs.Parts.{adjacent-head, adjacent-tail, adjacent-elim, PartClosed, part-all, part-closed, part-has, least-in, least-le}
+use Rattle.skew.proofs.Parts.{adjacent-head, adjacent-tail, adjacent-elim, part-all, part-closed, part-has, least-in, least-le}
 use Rattle.skew.proofs.Forest.{bud-both, bud-base, bud-arc, tail-both, root-up, root-stop, arc-root}
 
 module _ (g : Graph) (wf : WellFormed g) (st : State) (I : Invariant g st) (K : Closed g st)

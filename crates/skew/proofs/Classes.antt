@@ -6,6 +6,7 @@
 --   barrier, barrier-test                     isBarrier holds exactly of barriers
 --   X-mate-class                              an Xi is closed under mates
 --   entry-test, test-entry, entries-same      entries by their test; two entries into an Xi are one
+--   exit-entry                                an arc from an Xi to A' is the mate of its entry
 --   canonical-class, canonical-length         the canonical classes as a list
 --   node-class                                a node's canonical class
 use mathlib.Core.Path.{_≡_, refl, sym, ap, subst, _∙_}
@@ -20,11 +21,12 @@ use borrow.Author.Tests.{eqb-true, eqb-false, eq-eqb, ne-eqb, ltb-true, ltb-fals
 use Rattle.counting.specs.Tests.{all, upFrom, below}
 use Rattle.counting.specs.Pairs.{Pair, noPair}
 use Rattle.skew.specs.Graph.{Graph, mate, nodes, arcAt, isReachable, classAt, largestOf, mateClass, matesAgree, entriesInto, isXM, arcFits, isBarrier, classOf, classesFrom, canonical}
-use Rattle.skew.specs.Paths.{tail, head}
+use Rattle.skew.specs.Paths.{tail, head, WellFormed}
 use Rattle.skew.specs.Barrier.{classesFit, isEntry, Barrier, EntryArc, NodeClass, in-X, in-A, in-A′, in-M}
 use Rattle.counting.proofs.Booleans.{and-two, and-five, and-both, or-right, or-cases, or-false-left, or-false-right, by-test, true-false, same-or}
 use Rattle.counting.proofs.Membership.{all-each, each-all, all-getD, getD-all}
 use Rattle.counting.proofs.Range.{up-in, in-up, length-up}
+use Rattle.skew.proofs.Paths.{mate-arc, tail-node}
 
 -- WHICH CLASSES FIT
 pub fit-from-A : (a b : ℕ) → classesFit a b ≡ true → a ≡ 1 → (b ≢ 2) × (b ≢ 0)
@@ -63,8 +65,8 @@ module _ (cs : List ℕ) (c : ℕ) where
   entry-counted (x ∷ xs) zero h e = rw e (omega arith)
   entry-counted (x ∷ xs) (suc i) h e = omega (arith, entry-counted xs i (omega arith) e)
 
-  pub entry-unique : (xs : List Pair) (i j : ℕ) → i < length xs → j < length xs → isEntry cs c (getD xs i noPair) ≡ true → isEntry cs c (getD xs j noPair) ≡ true →
-      entriesInto cs c xs ≡ 1 → i ≡ j
+  pub entry-unique : (xs : List Pair) (i j : ℕ) → i < length xs → j < length xs → isEntry cs c (getD xs i noPair) ≡ true →
+      isEntry cs c (getD xs j noPair) ≡ true → entriesInto cs c xs ≡ 1 → i ≡ j
   unfolding entriesInto
   entry-unique [] i j h k e f n = absurd (omega arith)
   entry-unique (x ∷ xs) zero zero h k e f n = refl
@@ -125,7 +127,8 @@ barrier g cs e =
       one-entry = λ c h l.
           ⊎-elim (λ q. absurd (omega (arith, ltb-true c 3 q))) (λ q. eqb-true _ _ q)
           (or-cases (ltb c 3) (eqb (entriesInto cs c (g .arcs)) 1)
-          (all-each (λ (c : ℕ). ltb c 3 || eqb (entriesInto cs c (g .arcs)) 1) (below (suc (largestOf cs))) (r .4) c (up-in 0 (suc (largestOf cs)) c (omega arith) (omega arith))));
+          (all-each (λ (c : ℕ). ltb c 3 || eqb (entriesInto cs c (g .arcs)) 1) (below (suc (largestOf cs))) (r .4) c
+          (up-in 0 (suc (largestOf cs)) c (omega arith) (omega arith))));
     }
 
 pub barrier-test : (g : Graph) (cs : List ℕ) → length cs ≡ nodes g → Barrier g cs → isBarrier g cs ≡ true
@@ -158,6 +161,17 @@ pub entries-same : (g : Graph) (cs : List ℕ) → Barrier g cs → (i j c : ℕ
 entries-same g cs B i j c E F =
     entry-unique cs c (g .arcs) i j (E .is-arc) (F .is-arc) (entry-test g cs i c E) (entry-test g cs j c F)
     (B .one-entry c (E .is-X) (subst (λ (z : ℕ). z ≤ largestOf cs) (E .into-X) (class-largest cs (head g i))))
+
+pub exit-entry : (g : Graph) → WellFormed g → (cs : List ℕ) → Barrier g cs → (i : ℕ) → i < length (g .arcs) → 3 ≤ classAt cs (tail g i) →
+    classAt cs (head g i) ≡ 2 → EntryArc g cs (mate i) (classAt cs (tail g i))
+exit-entry g wf cs B i h x two =
+    let r = mate-arc g (wf .symmetric) i h in
+    record {
+      is-arc = r .0;
+      is-X = x;
+      from-A = rw (r .1, B .mate-class (head g i) (wf .head-node i h), two);
+      into-X = rw (r .2, B .mate-class (tail g i) (tail-node g wf i h), X-mate-class (classAt cs (tail g i)) x);
+    }
 
 -- THE CANONICAL CLASSES
 classes-at : (g : Graph) (a n i : ℕ) → i < n → getD (classesFrom g (upFrom a n)) i 0 ≡ classOf g (a + i)

@@ -1,10 +1,11 @@
--- A graph without a path, read by its canonical barrier: the classes of a node and its mate by which of them are reachable, and the one entry of each Xi.
--- Assumes nothing.
---   Classes v w, classes-of      a node and its mate: both reachable, one of them, or none
+-- A graph without a path, read by its canonical barrier (document 000, section 2.1).
+--   canonical-barrier-of         the canonical classes are a barrier
+--   Classes v w, classes-of      a node and its mate: both reachable, one of them, or none, and their classes
 --   Entry i c                    arc i leads from A into class c, an Xi
---   entry-one, find-entry        there is one; it is found by trial
+--   entry-one                    each Xi has one entry
+--   findEntry, find-entry        found by trial
 --   path-entry                   a regular path to a node of an Xi goes over its entry
-use mathlib.Core.Path.{_≡_, refl, sym, ap, subst, _∙_}
+use mathlib.Core.Path.{_≡_, refl, sym, ap, _∙_}
 use mathlib.Core.Logic.{_⊎_, inl, inr, ⊎-elim}
 use mathlib.Core.Bool.{Bool, true, false}
 use mathlib.Core.List.{List, [], _∷_}
@@ -15,7 +16,6 @@ use Rattle.counting.specs.Tests.{below}
 use Rattle.counting.specs.Lists.{In, find}
 use Rattle.skew.specs.Graph.{Graph, mate, nodes, arcAt, nodesAlong, isReachable, hasPath, classAt, mateClass, classOf, canonical}
 use Rattle.skew.specs.Paths.{tail, head, Joins, WellFormed}
-use Rattle.skew.specs.Segments.{step}
 use Rattle.skew.specs.Barrier.{isEntry, Barrier, EntryArc, NodeClass, in-X, in-A, in-A′, in-M}
 use Rattle.counting.proofs.Booleans.{true-false}
 use Rattle.counting.proofs.Kept.{found}
@@ -87,25 +87,28 @@ module _ (g : Graph) (W : WellFormed g) (no-path : hasPath g ≡ false) where
       entry-one (findEntry c) i c
       (test-entry g (canonical g) (findEntry c) c (omega (arith, in-up 0 m (findEntry c) (f .0))) (E .is-X) (f .1)) E
 
-  -- a path leaves A for an Xi only over an entry
-  walk : (v w : ℕ) (q : List ℕ) → Joins g v w q → ((x : ℕ) → In x (nodesAlong g v q) → (x < nodes g) × (Z x ≡ true)) → 3 ≤ class w →
-      (class v ≡ class w) ⊎ ((i : ℕ) × In i q × Entry i (class w))
+  -- a path to a node w of an Xi that has met w's class, or goes over its entry
+  abbrev Enters : (v w : ℕ) → List ℕ → Type 0
+  Enters v w q = (class v ≡ class w) ⊎ ((i : ℕ) × In i q × Entry i (class w))
+
+  walk : (v w : ℕ) (q : List ℕ) → Joins g v w q → ((x : ℕ) → In x (nodesAlong g v q) → (x < nodes g) × (Z x ≡ true)) → 3 ≤ class w → Enters v w q
   unfolding nodesAlong
   walk v w [] j z h = inl (ap class j)
   walk v w (i ∷ is) j z h = go (walk (head g i) w is (j .2) (λ x m. z x (inr m)) h)
     where
-      step : class (head g i) ≡ class w → (class v ≡ class w) ⊎ ((k : ℕ) × In k (i ∷ is) × Entry k (class w))
-      step e =
+      -- the first arc leads into w's class
+      into : class (head g i) ≡ class w → Enters v w (i ∷ is)
+      into e =
           let r = z v (inl refl) in
-          ⊎-elim (λ a. inr (i, inl refl, record { is-arc = j .0; is-X = h; from-A = ap class (j .1) ∙ a; into-X = e }))
+          let t : class (tail g i) ≡ class v = ap class (j .1) in
+          ⊎-elim (λ a. inr (i, inl refl, record { is-arc = j .0; is-X = h; from-A = t ∙ a; into-X = e }))
           (λ a.
-          let f =
-          fit-from-X (class (tail g i)) (class (head g i)) (canonical-barrier-of .arc-fits i (j .0)) (subst (λ (y : ℕ). 3 ≤ class y) (sym (j .1)) a) in
-          ⊎-elim (λ s. inl (ap class (sym (j .1)) ∙ sym s ∙ e)) (⊎-elim (λ s. absurd (omega arith)) (λ s. absurd (omega arith))) f)
+          ⊎-elim (λ s. inl (sym t ∙ sym s ∙ e)) (⊎-elim (λ s. absurd (omega arith)) (λ s. absurd (omega arith)))
+          (fit-from-X (class (tail g i)) (class (head g i)) (canonical-barrier-of .arc-fits i (j .0)) (omega (arith, t, a))))
           (reachable-class v (r .0) (r .1))
 
-      go : (class (head g i) ≡ class w) ⊎ ((k : ℕ) × In k is × Entry k (class w)) → (class v ≡ class w) ⊎ ((k : ℕ) × In k (i ∷ is) × Entry k (class w))
-      go (inl e) = step e
+      go : Enters (head g i) w is → Enters v w (i ∷ is)
+      go (inl e) = into e
       go (inr r) = inr (r .0, inr (r .1), r .2)
 
   pub path-entry : (v : ℕ) (q : List ℕ) → PathTo g W v q → 3 ≤ class v → (i : ℕ) × In i q × Entry i (class v)
@@ -113,4 +116,5 @@ module _ (g : Graph) (W : WellFormed g) (no-path : hasPath g ≡ false) where
       let s = canonical-barrier-of .source-class in
       let low : (x : ℕ) → In x (nodesAlong g (g .source) q) → x < nodes g =
       nodes-within g (nodes g) (g .source) v q (W .head-node) (W .source-node) (P .joins) in
-      ⊎-elim (λ e. absurd (omega arith)) (λ r. r) (walk (g .source) v q (P .joins) (λ x m. (low x m, along-reachable g W v q P x m)) h)
+      ⊎-elim (λ e. absurd (omega arith)) (λ r. r)
+      (walk (g .source) v q (P .joins) (λ x m. (low x m, along-reachable g W v q P x m)) h)

@@ -1,4 +1,10 @@
--- Segments.
+-- The paths that labels give (SEG laws). Assumes nothing.
+--   seg-unique              there is one at most
+--   seg-step                one step, with its arc and its nodes named
+--   seg-joins               it leads from its start to its end
+--   spine, spine-nodes      the nodes whose labels are read on the way lie on the path
+--   seg-mono                other labels that agree at reached nodes give the same
+--   seg-compose             one path after another, where its start is not read on the way
 use mathlib.Core.Path.{_≡_, refl, sym, ap, ap₂, subst, _∙_}
 use mathlib.Core.Logic.{inl, inr, _≢_}
 use mathlib.Core.Bool.{Bool, true}
@@ -21,14 +27,14 @@ module _ {g : Graph} {reached : ℕ → Bool} {via : ℕ → ℕ} where
   seg-unique (step {v = v} l n h x y) (step k m j u w) =
       ap₂ (λ (a b : List ℕ). a ++ via v ∷ reverseMap mate b) (seg-unique x u) (seg-unique y w)
 
-  -- the nodes at which the segment itself turns, its inner segments' left out
-  unfoldable pub turns : {s v : ℕ} {p : List ℕ} → Seg g reached via s v p → List ℕ
-  turns done = []
-  turns (step {v = v} l n h x y) = v ∷ turns x
+  -- the nodes at which the segment itself spine, its inner segments' left out
+  unfoldable pub spine : {s v : ℕ} {p : List ℕ} → Seg g reached via s v p → List ℕ
+  spine done = []
+  spine (step {v = v} l n h x y) = v ∷ spine x
 
   -- a step, with its arc named
-  pub seg-step : (s v e x y : ℕ) (p q : List ℕ) → reached v ≡ true → v ≢ s → via v ≡ e → e < length (g .arcs) → tail g e ≡ x → mate (head g e) ≡ y →
-      Seg g reached via s x p → Seg g reached via (mate v) y q → Seg g reached via s v (p ++ e ∷ reverseMap mate q)
+  pub seg-step : (s v e x y : ℕ) (p q : List ℕ) → reached v ≡ true → v ≢ s → via v ≡ e → e < length (g .arcs) → tail g e ≡ x →
+      mate (head g e) ≡ y → Seg g reached via s x p → Seg g reached via (mate v) y q → Seg g reached via s v (p ++ e ∷ reverseMap mate q)
   seg-step s v e x y p q l n k h f i A B =
       subst (λ (z : ℕ). Seg g reached via s v (p ++ z ∷ reverseMap mate q)) k
       (step l n (rw k h) (subst (λ (z : ℕ). Seg g reached via s z p) (sym (ap (tail g) k ∙ f)) A)
@@ -41,13 +47,15 @@ module _ {g : Graph} {reached : ℕ → Bool} {via : ℕ → ℕ} where
       joins-append g s (tail g (via v)) v p (via v) (reverseMap mate q) (seg-joins d x) h refl
       (rw (mate-mate (head g (via v)), mate-mate v) at r)
 
-  pub turns-nodes : (d : SkewSymmetric g) {s v : ℕ} {p : List ℕ} (x : Seg g reached via s v p) (k : ℕ) → In k (turns x) → In k (nodesAlong g s p)
-  unfolding turns
-  turns-nodes d done k m = absurd m
-  turns-nodes d (step {s = s} {v = v} {p = p} {q = q} l n h x y) k (inl e) =
+  pub spine-nodes : (d : SkewSymmetric g) {s v : ℕ} {p : List ℕ} (x : Seg g reached via s v p) (k : ℕ) → In k (spine x) →
+      In k (nodesAlong g s p)
+  unfolding spine
+  spine-nodes d done k m = absurd m
+  spine-nodes d (step {s = s} {v = v} {p = p} {q = q} l n h x y) k (inl e) =
       rw e (joins-end g s v (p ++ via v ∷ reverseMap mate q) (seg-joins d (step l n h x y)))
-  turns-nodes d (step {s = s} {v = v} {p = p} {q = q} l n h x y) k (inr m) =
-      rw (nodes-append g s p (via v) (reverseMap mate q)) (in-left k (nodesAlong g s p) (nodesAlong g (head g (via v)) (reverseMap mate q)) (turns-nodes d x k m))
+  spine-nodes d (step {s = s} {v = v} {p = p} {q = q} l n h x y) k (inr m) =
+      rw (nodes-append g s p (via v) (reverseMap mate q))
+      (in-left k (nodesAlong g s p) (nodesAlong g (head g (via v)) (reverseMap mate q)) (spine-nodes d x k m))
 
 pub seg-mono : {g : Graph} {reached reached′ : ℕ → Bool} {via via′ : ℕ → ℕ} →
     ((u : ℕ) → reached u ≡ true → (reached′ u ≡ true) × (via′ u ≡ via u)) →
@@ -60,8 +68,9 @@ seg-mono {g} {reached} {reached′} {via} {via′} f (step {s = s} {v = v} {p = 
 -- one segment after another, under labels that have changed elsewhere
 pub seg-compose : {g : Graph} {reached reached′ : ℕ → Bool} {via via′ : ℕ → ℕ} →
     ((u : ℕ) → reached u ≡ true → (reached′ u ≡ true) × (via′ u ≡ via u)) →
-    {a b v : ℕ} {p q : List ℕ} (x : Seg g reached via b v q) → (In a (turns x) → ⊥) → Seg g reached′ via′ a b p → Seg g reached′ via′ a v (p ++ q)
-unfolding turns
+    {a b v : ℕ} {p q : List ℕ} (x : Seg g reached via b v q) → (In a (spine x) → ⊥) → Seg g reached′ via′ a b p →
+    Seg g reached′ via′ a v (p ++ q)
+unfolding spine
 seg-compose f {p = p} done out z = rw (append-nil p) z
 seg-compose {g} {reached} {reached′} {via} {via′} f {a} {b} {p = p} (step {v = v} {p = p₁} {q = q₁} l n h x y) out z =
     let r = f v l in

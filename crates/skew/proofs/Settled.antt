@@ -77,7 +77,8 @@ module _ (g : Graph) (d : SkewSymmetric g) (st : State) (I : Invariant g st) whe
   head-base j S = subst (λ (b : ℕ). IsBase st b) (I .base-mate (head g j)) (I .base-base (mate (head g j)) (S .mate-reached))
 
   pub settled-kind : (j : ℕ) → j < length (g .arcs) → SettledArc g st j → SettledKind g st j
-  settled-kind j h S = ⊎-elim (λ k. within (k .0) (k .1) (shared x y (S .tail-reached) (S .mate-reached) (k .0) (k .1))) (⊎-elim into out-of) (S .settled)
+  settled-kind j h S =
+      ⊎-elim (λ k. within (k .0) (k .1) (shared x y (S .tail-reached) (S .mate-reached) (k .0) (k .1))) (⊎-elim into out-of) (S .settled)
     where
       x : ℕ
       x = tail g j

@@ -8,6 +8,7 @@
 --   Ascent      how the bud of an arc is found
 --   Scan        the order in which arcs are looked at
 --   Forest      the forest of buds
+--   Parts       connected parts
 --   Barrier     barriers as a type
 --   Promise     what is promised of every well-formed graph
 pub mod Graph
@@ -19,5 +20,6 @@ pub mod Measure
 pub mod Ascent
 pub mod Scan
 pub mod Forest
+pub mod Parts
 pub mod Barrier
 pub mod Promise
