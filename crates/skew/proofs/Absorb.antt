@@ -1,5 +1,5 @@
--- One more fragment is absorbed (document 000, section 2.3). The end z has the later base c; c's fragment is absorbed, and the end moves to the tail x
--- of c's base arc. The way down from x leads over that arc to c, within the fragment to z, and on as before.
+-- One more fragment is absorbed (document 000, section 2.3). The end z has the later base c; c's fragment is absorbed, and the end moves to
+-- the tail x of c's base arc. The way down from x leads over that arc to c, within the fragment to z, and on as before.
 --   absorb-first      the first one
 --   absorb-next       a further one
 use mathlib.Core.Path.{_≡_, refl, sym, ap, subst, _∙_}

@@ -1,5 +1,4 @@
 -- The forest of buds of a state that does not reach the source's mate.
---   half-reached-base           a reached node whose mate is not reached is the base of a plain fragment
 --   both-mate                   a bud is closed under mates
 --   bud-both                    all nodes of a bud are reached
 --   bud-base, bud-arc           a bud's base and its base arc
@@ -15,19 +14,14 @@ use native.Mathlib.Omega.{arith}
 use lib.ListN.{length}
 use Rattle.skew.specs.Graph.{Graph, mate}
 use Rattle.skew.specs.Paths.{tail, head, SkewSymmetric}
-use Rattle.skew.specs.Search.{State, Plain, BaseArc, Invariant}
+use Rattle.skew.specs.Search.{State, BaseArc, Invariant}
 use Rattle.skew.specs.Steps.{enters, leaves, Closed}
 use Rattle.skew.specs.Forest.{BothReached, BudBase, entryTail, rootFrom, root, rootOf, IsRoot}
 use Rattle.counting.proofs.Booleans.{by-test, true-false}
-use Rattle.skew.proofs.Mates.{mate-mate, mate-inj}
+use Rattle.skew.proofs.Mates.{mate-mate}
 use Rattle.skew.proofs.Paths.{mate-arc}
 
 module _ (g : Graph) (st : State) (I : Invariant g st) where
-  pub half-reached-base : (v : ℕ) → st .reached v ≡ true → st .reached (mate v) ≡ false → (v ≡ st .base v) × Plain st (st .base v)
-  half-reached-base v l n =
-      ⊎-elim (λ m. true-false m n) (λ m. (mate-inj v (st .base v) (m .1), m .0))
-      (I .whole (st .base v) (mate v) (I .base-base v l) (I .base-mate v))
-
   base-mate-reached : (v : ℕ) → BothReached st v → st .reached (mate (st .base v)) ≡ true
   base-mate-reached v B =
       let b = st .base v in

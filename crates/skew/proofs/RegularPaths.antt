@@ -1,5 +1,4 @@
--- Regular paths put together. A set of nodes closed under mates holds with a path also its mates; two such sets without a common node hold no arc and
--- its mate between them.
+-- Regular paths put together. Between two sets that are closed under mates and have no common node, an arc and its mate lead opposite ways.
 --   path-empty       no arc
 --   path-widen       in a larger set
 --   concat           CONCAT: a path in one set, an arc, a path in another

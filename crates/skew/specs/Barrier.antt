@@ -20,6 +20,7 @@ classesFit a b = not (isXM a && isXM b && not (eqb a b)) && not (eqb a 1 && (eqb
 abbrev pub isEntry : (classes : List ℕ) → (class : ℕ) → Pair → Bool
 isEntry cs c x = eqb (classAt cs (x .first)) 1 && eqb (classAt cs (x .second)) c
 
+-- document 000's (B2), (B3) and (B4), (B6) to (B8), (B5); (B1) as a node has one class
 pub record Barrier (g : Graph) (cs : List ℕ) : Type 0 where
   pub source-class : classAt cs (g .source) ≡ 1
   pub mate-class : (v : ℕ) → v < nodes g → classAt cs (mate v) ≡ mateClass (classAt cs v)

@@ -1,4 +1,4 @@
--- Paths as types (document 000, section 2.1): what the tests of Graph say of them, and which graphs the theory is about.
+-- Paths as types (document 000, section 1): what the tests of Graph say of them, and which graphs the theory is about.
 --   tail g i, head g i       the ends of arc i
 --   Joins g a v p            the arcs p lead from node a to node v
 --   Unmated p                no arc of p stands in p with its mate

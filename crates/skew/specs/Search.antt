@@ -1,6 +1,6 @@
 -- The state of a search for a regular path to the source's mate, and its invariant. The nodes of one base are a fragment (document 000, section
 -- 3.1): a node and its mate alone, or a bud (document 000, section 2.2; document 001, section 7.1) with all its nodes reached.
---   State                  reached nodes, each node's base, the arc by which it was reached, and when
+--   State                  what is known of each node, and the clock
 --   IsBase st b            b is reached and its own base
 --   InFragment st b x      x has base b
 --   Plain st b             b's fragment is b and its mate alone
@@ -19,6 +19,8 @@ use Rattle.skew.specs.Graph.{Graph, mate}
 use Rattle.skew.specs.Paths.{tail, head}
 use Rattle.skew.specs.Segments.{LabelledPath}
 
+-- which nodes are reached; each node's base; the arc and the event by which a node was reached; the number of the next event. An event is a tree
+-- step or the forming of a bud: all nodes that a bud reaches have one birth
 pub record State : Type 0 where
   pub reached : ℕ → Bool
   pub base : ℕ → ℕ
