@@ -2,19 +2,21 @@
 --   looked-none, looked-fewer      at no arc yet; at fewer arcs
 --   looked-more                    at one arc more, after its step
 --   looked-closed                  at every arc of a reached node: the state is closed
---   scan-start, scan-switch, scan-skip, scan-look, scan-done, scan-closed      the same, node by node
+--   scan-start, scan-switch, scan-past, scan-skip, scan-look, scan-done, scan-closed      the same, node by node
 use mathlib.Core.Path.{_≡_, sym, ap, subst, _∙_}
 use mathlib.Core.Logic.{_⊎_, inl, inr, _≢_, ⊎-elim}
 use mathlib.Core.Bool.{Bool, true}
-use Prim.Native.Nat.{ℕ, _+_, _<_}
+use Prim.Native.Nat.{ℕ, _+_, _≤_, _<_}
 use native.Mathlib.Omega.{arith}
+use lib.Dec.{ltb}
 use lib.ListN.{length}
+use borrow.Author.Tests.{ltb-true, ltb-false}
 use Rattle.skew.specs.Graph.{Graph, mate}
 use Rattle.skew.specs.Paths.{tail, head, SkewSymmetric, WellFormed}
 use Rattle.skew.specs.Search.{State, Invariant}
 use Rattle.skew.specs.Steps.{SettledArc, Touched, Closed}
 use Rattle.skew.specs.Scan.{Looked, Scanning}
-use Rattle.counting.proofs.Booleans.{same-or}
+use Rattle.counting.proofs.Booleans.{by-test, same-or}
 use Rattle.skew.proofs.Mates.{mate-mate}
 use Rattle.skew.proofs.Paths.{mate-arc}
 use Rattle.skew.proofs.Settled.{settled-mate}
@@ -42,12 +44,12 @@ module _ (g : Graph) (wf : WellFormed g) where
 
   -- the arc a was looked at and its step taken; what is reached and settled stays so
   module _ {looked looked′ : ℕ → Type 0} (st new : State) (I : Invariant g new) (a : ℕ)
-      (more : (i : ℕ) → looked′ i → looked i ⊎ (i ≡ a)) (la : st .reached (tail g a) ≡ true) (L : Looked g st looked)
+      (more : (i : ℕ) → looked′ i → looked i ⊎ ((i ≡ a) × (st .reached (tail g i) ≡ true))) (L : Looked g st looked)
       (stay : (u : ℕ) → st .reached u ≡ true → new .reached u ≡ true)
       (still : (j : ℕ) → j < length (g .arcs) → SettledArc g st j → SettledArc g new j) (touch : Touched g new a)
       (settle : st .reached (mate (head g a)) ≡ true → SettledArc g new a) where
     tail-reached : (i : ℕ) → i < length (g .arcs) → looked′ i → st .reached (tail g i) ≡ true
-    tail-reached i h s = ⊎-elim (L .reached i h) (λ q. rw q la) (more i s)
+    tail-reached i h s = ⊎-elim (L .reached i h) (λ q. q .1) (more i s)
 
     here : (i : ℕ) → i < length (g .arcs) → looked′ (mate i) → i ≡ a → SettledArc g new i
     here i h t q =
@@ -68,9 +70,9 @@ module _ (g : Graph) (wf : WellFormed g) where
           touched = λ i h s.
               ⊎-elim
               (λ t. ⊎-elim (λ l. inl (stay (head g i) l)) (λ l. inr (stay (mate (head g i)) l)) (L .touched i h t))
-              (λ q. rw q touch) (more i s);
+              (λ q. rw (q .0) touch) (more i s);
           settled = λ i h s t.
-              ⊎-elim (λ p. ⊎-elim (λ q. still i h (L .settled i h p q)) (there i h s) (more (mate i) t)) (here i h t) (more i s);
+              ⊎-elim (λ p. ⊎-elim (λ q. still i h (L .settled i h p q)) (λ q. there i h s (q .0)) (more (mate i) t)) (λ q. here i h t (q .0)) (more i s);
         }
 
   pub looked-closed : {looked : ℕ → Type 0} (st : State) → ((i : ℕ) → i < length (g .arcs) → st .reached (tail g i) ≡ true → looked i) →
@@ -91,20 +93,27 @@ module _ (g : Graph) (wf : WellFormed g) where
   pub scan-switch : (st : State) (T : ℕ → Bool) (x y : ℕ) → Scanning g st T x 0 → Scanning g st T y 0
   scan-switch st T x y = looked-fewer st (λ i h. ⊎-elim (λ t. inl t) (λ t. absurd (omega (arith, t .1))))
 
-  -- another node's arc is passed over
-  pub scan-skip : (st : State) (T : ℕ → Bool) (x a : ℕ) → tail g a ≢ x → Scanning g st T x a → Scanning g st T x (a + 1)
-  scan-skip st T x a n =
+  -- other nodes' arcs are passed over
+  pub scan-past : (st : State) (T : ℕ → Bool) (x a b : ℕ) → ((j : ℕ) → a ≤ j → j < b → tail g j ≡ x → ⊥) → Scanning g st T x a →
+      Scanning g st T x b
+  scan-past st T x a b none =
       looked-fewer st
       (λ i h. ⊎-elim (λ t. inl t)
-      (λ t. ⊎-elim (λ (q : i ≡ a). absurd (n (ap (tail g) (sym q) ∙ t .0))) (λ q. inr (t .0, omega (arith, t .1))) (same-or i a)))
+      (λ t.
+      by-test (ltb i a) (λ l. inr (t .0, ltb-true i a l)) (λ l. absurd (none i (ltb-false i a l) (t .1) (t .0)))))
 
-  pub scan-look : (st new : State) → Invariant g new → (T : ℕ → Bool) (x a : ℕ) → tail g a ≡ x → st .reached x ≡ true → Scanning g st T x a →
+  pub scan-skip : (st : State) (T : ℕ → Bool) (x a : ℕ) → tail g a ≢ x → Scanning g st T x a → Scanning g st T x (a + 1)
+  scan-skip st T x a n =
+      scan-past st T x a (a + 1) (λ j h l e. let q : j ≡ a = omega arith in n (ap (tail g) (sym q) ∙ e))
+
+  pub scan-look : (st new : State) → Invariant g new → (T : ℕ → Bool) (x a : ℕ) → st .reached x ≡ true → Scanning g st T x a →
       ((u : ℕ) → st .reached u ≡ true → new .reached u ≡ true) →
       ((j : ℕ) → j < length (g .arcs) → SettledArc g st j → SettledArc g new j) → Touched g new a →
       (st .reached (mate (head g a)) ≡ true → SettledArc g new a) → Scanning g new T x (a + 1)
-  scan-look st new I T x a e lx =
+  scan-look st new I T x a lx =
       looked-more st new I a
-      (λ i. ⊎-elim (λ t. inl (inl t)) (λ t. ⊎-elim (λ q. inr q) (λ q. inl (inr (t .0, omega (arith, t .1, q)))) (same-or i a))) (rw e lx)
+      (λ i. ⊎-elim (λ t. inl (inl t))
+      (λ t. ⊎-elim (λ q. inr (q, rw (t .0) lx)) (λ q. inl (inr (t .0, omega (arith, t .1, q)))) (same-or i a)))
 
   -- the node's last arc is behind: it is scanned
   pub scan-done : (st : State) (T T′ : ℕ → Bool) (x y : ℕ) → ((u : ℕ) → T′ u ≡ true → (T u ≡ true) ⊎ (u ≡ x)) →
