@@ -3,7 +3,15 @@
 --   LinePlaces    lines by their places in a file
 --   HexNumbers    numbers of digits, in a line and in the file
 --   WholeFiles    question 3, line by line
+--   Questions     questions put one after the other
+--   BodyFrames    questions 6 and 7, line by line
+--   HeaderFrames  questions 2, 3 and 4, and the first line
+--   ShapeFaults   questions 2 to 7 together
 pub mod LineEnds
 pub mod LinePlaces
 pub mod HexNumbers
 pub mod WholeFiles
+pub mod Questions
+pub mod BodyFrames
+pub mod HeaderFrames
+pub mod ShapeFaults

@@ -2,6 +2,8 @@
 --   Frames     files of frames, the questions of their shape, frames as written
 --   Lines      lines by their places in a file
 --   Numbers    numbers of digits as code reads them
+--   Shape      the questions of a file's shape as they are read, and what is known of a file that has it
 pub mod Frames
 pub mod Lines
 pub mod Numbers
+pub mod Shape

@@ -1,0 +1,100 @@
+-- `frames::shape::body_of` meets its contract. The loop's invariant: what is left of both questions at `at`. The measure is what is left
+-- of the lines.
+use mathlib.Core.Path.{_≡_, refl, sym, _∙_}
+use mathlib.Core.Logic.{⊎-elim}
+use Prim.Native.Nat.{ℕ, _-_, _+_}
+use native.Mathlib.Omega.{arith}
+use lib.Dec.{eqb}
+use lib.ListN.{length}
+use borrow.Author.Tests.{not-true, not-false}
+use Rattle.counting.specs.Tests.{pick}
+use Rattle.frames.specs.Shape.{formOf}
+use Rattle.frames.proofs.BodyFrames.{BodyLeft, left-start, left-stay, left-turn, first-more, first-same, answer-end, answer-fail, answer-over}
+use Rattle.frames.proofs.shape.body_of.Statement.{statement}
+use Rattle.frames.proofs.shape.body_of.Tie as tie
+
+abbrev Inv-loop : tie.InvT-loop
+Inv-loop g layout first second size at₀ count₀ firsts₀ kind₀ at count firsts kind = BodyLeft (formOf layout) (layout .first) (layout .second) g at count firsts kind
+
+abbrev μ-loop : tie.MeasureT-loop
+μ-loop g layout first second size at₀ count₀ firsts₀ kind₀ at count firsts kind = length g - at
+
+-- past a body line, whichever kind it has
+next-line : (c : tie.Joined2 Inv-loop μ-loop) (m : ℕ) → m ≡ pick (eqb (c .if2 .kind) (c .before .before .before .before .before .before .before .args .layout .first)) 1 0 + c .before .before .before .before .before .loop .firsts →
+    BodyLeft (formOf (c .before .before .before .before .before .before .before .args .layout)) (c .before .before .before .before .before .before .before .args .layout .first) (c .before .before .before .before .before .before .before .args .layout .second) (c .before .before .before .before .before .before .before .args .g .now)
+    (c .before .before .before .line-at .result .next) (c .before .before .before .before .before .loop .count + 1) m (c .if2 .kind)
+next-line c m e =
+    let l = c .before .before .before .line-at .ensures in
+    let r = c .before .before .before .before .before .loop .inv in
+    ⊎-elim
+    (λ w.
+    rw (w .3)
+    (left-turn _ _ _ _ _ _ _ _ _ _ l r (omega arith) m (sym (c .before .is-frame .ensures) ∙ not-true _ (w .0 .taken))
+    (sym (w .1 .ensures) ∙ not-false _ (w .2 .left)) (rw (w .3) at e)))
+    (λ w. rw (w .1) (left-stay _ _ _ _ _ _ _ _ _ _ l r (omega arith) m (sym (c .before .is-frame .ensures) ∙ not-false _ (w .0 .left)) (rw (w .1) at e)))
+    (c .if2 .came)
+
+loop-holds : tie.Need-loop-holds Inv-loop μ-loop
+loop-holds c = left-start _ _ _ _ refl
+
+line-at-requires : tie.Need-line-at-requires Inv-loop μ-loop
+line-at-requires c κs = omega arith
+
+end-fault-requires : tie.Need-end-fault-requires Inv-loop μ-loop
+end-fault-requires c κs = (omega arith, omega arith)
+
+returns : tie.Need-returns Inv-loop μ-loop
+returns c = answer-end _ _ _ _ _ _ _ _ _ _ (c .before .before .line-at .ensures) (c .before .before .before .before .loop .inv) _ refl (c .before .if1 .taken) (c .end-fault .ensures)
+
+is-frame-requires : tie.Need-is-frame-requires Inv-loop μ-loop
+is-frame-requires c κs = (omega arith, omega arith)
+
+is-frame-requires-2 : tie.Need-is-frame-requires-2 Inv-loop μ-loop
+is-frame-requires-2 c κs = (omega arith, omega arith)
+
+returns-2 : tie.Need-returns-2 Inv-loop μ-loop
+returns-2 c =
+    answer-fail _ _ _ _ _ _ _ _ _ _ (c .before .before .before .before .before .line-at .ensures) (c .before .before .before .before .before .before .before .loop .inv) (omega arith)
+    (sym (c .before .before .before .is-frame .ensures) ∙ not-true _ (c .before .before .if2 .taken)) (sym (c .before .is-frame2 .ensures) ∙ not-true _ (c .if3 .taken))
+
+add-count : tie.Need-add-count Inv-loop μ-loop
+add-count c = omega arith
+
+add-firsts : tie.Need-add-firsts Inv-loop μ-loop
+add-firsts c = omega arith
+
+loop-less : tie.Need-loop-less Inv-loop μ-loop
+loop-less c = omega arith
+
+loop-again : tie.Need-loop-again Inv-loop μ-loop
+loop-again c = next-line (c .before) _ (first-more _ _ _ (c .if4 .taken))
+
+loop-less-2 : tie.Need-loop-less-2 Inv-loop μ-loop
+loop-less-2 c = omega arith
+
+loop-again-2 : tie.Need-loop-again-2 Inv-loop μ-loop
+loop-again-2 c = next-line (c .before) _ (first-same _ _ _ (c .if4 .left))
+
+returns-3 : tie.Need-returns-3 Inv-loop μ-loop
+returns-3 c = answer-over _ _ _ _ _ _ _ _ (c .before .loop .inv) (c .loop-test .left)
+
+pub body-of-spec : {M : Type 1} → statement M
+body-of-spec =
+    tie.close
+    (tie.spec
+    Inv-loop
+    μ-loop
+    loop-holds
+    line-at-requires
+    end-fault-requires
+    returns
+    is-frame-requires
+    is-frame-requires-2
+    returns-2
+    add-count
+    add-firsts
+    loop-less
+    loop-again
+    loop-less-2
+    loop-again-2
+    returns-3)
