@@ -1,12 +1,11 @@
 -- Questions 2 to 7 together, and what is known of a file that passes them. Assumes nothing.
 --   shape-chain                               shapeFault as one chain: questions 2 to 4, the answer to 5, questions 6 and 7
 --   fits-free                                 where 2, 3 or 4 is answered no, the answer to 5 does not matter
---   rest-split                                the lines after the header: body frames, then the end frame
---   plain-rest                                bodies of four digits: every line after the header is six digits
+--   shaped                                    what is known where no question is answered no
 --   answer-header, answer-five, answer-body   the answers, one for each way the questions end
 use mathlib.Core.Path.{_≡_, refl, ap, sym, _∙_}
 use mathlib.Core.Bool.{Bool, true, false, _&&_}
-use mathlib.Core.List.{List, [], _∷_, _++_}
+use mathlib.Core.List.{List, [], _∷_}
 use Prim.Native.Nat.{ℕ, suc, _+_, _-_, _%_, _≤_, _<_}
 use native.Mathlib.Omega.{arith}
 use lib.Dec.{ltb, eqb}
@@ -21,7 +20,7 @@ use Rattle.frames.specs.Shape.{bodiesOf, firstKind, lastKind, headerFaul
 use Rattle.frames.proofs.LinePlaces.{all-take, all-drop, all-append}
 use Rattle.frames.proofs.HexNumbers.{hex-small}
 use Rattle.frames.proofs.Questions.{or-stop, or-go, or-assoc, or-none, unless-none}
-use Rattle.frames.proofs.BodyFrames.{frame-length, first-kind, last-kind, fit-bodies, fit-runs, split-last}
+use Rattle.frames.proofs.BodyFrames.{frame-length, first-kind, last-kind, fit-bodies, fit-runs}
 use Rattle.frames.proofs.HeaderFrames.{rest-lines, past-short, past-whole}
 
 -- THE CHAIN
@@ -161,14 +160,3 @@ module _ (k : Form) (f : List ℕ) (z : Bool) where
           says = r .says ∙ ap (bodyFault k) (sym t) ∙ sym (past-header ∙ rw e);
           shaped = λ o. shaped k a b q f next count firsts h l (rw o at r);
         }
-
--- WHAT FOLLOWS of the lines after the header
-module _ (k : Form) (f : List ℕ) (next count firsts : ℕ) (s : Shaped k f next count firsts) where
-  pub rest-split : restLines f ≡ bodyLines f ++ (lastLine f ∷ [])
-  rest-split = split-last (restLines f) (s .some)
-
-  pub plain-rest : k .bodySize ≡ 4 → all (isPlain 6) (restLines f) ≡ true
-  unfolding all
-  plain-rest e =
-      let p : all (isPlain 6) (bodyLines f) ≡ true = rw e at (s .plainBody) in
-      rw rest-split (all-append (isPlain 6) (bodyLines f) (lastLine f ∷ []) p (and-both (isPlain 6 (lastLine f)) true (s .plainEnd) refl))

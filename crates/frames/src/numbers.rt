@@ -26,7 +26,7 @@ pub fn digit_at(f: &[u8], at: usize) -> bool
 }
 
 // The value of a digit.
-fn digit(c: u8) -> usize
+fn digit_value(c: u8) -> usize
     ensures { λ r. ⌜ DigitValue c r ⌝ }
 {
     if c <= 57 {
@@ -41,7 +41,7 @@ pub fn hex2(f: &[u8], at: usize) -> usize
     requires { ⌜ at + 2 ≤ length (now f) ⌝ }
     ensures { λ r. ⌜ NumberAt (now (f .entry)) at 2 r ⌝ }
 {
-    16 * digit(f[at]) + digit(f[at + 1])
+    16 * digit_value(f[at]) + digit_value(f[at + 1])
 }
 
 // The number of the four digits at `at`.

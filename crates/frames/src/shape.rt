@@ -87,10 +87,10 @@ fn end_fault(g: &[u8], at: usize, end: usize, kind: usize, count: usize) -> u8
     0
 }
 
-pub struct Body {
-    pub number: u8,
-    pub count: usize,
-    pub firsts: usize,
+struct Body {
+    number: u8,
+    count: usize,
+    firsts: usize,
 }
 
 // Questions 6 and 7, in one pass over `g`, the file from its second line on: the first answered no, or 0; how many body lines stand before
@@ -139,9 +139,9 @@ fn body_of(g: &[u8], layout: Layout) -> Body
     }
 }
 
-pub struct Header {
-    pub number: u8,
-    pub next: usize,
+struct Header {
+    number: u8,
+    next: usize,
 }
 
 // Questions 2, 3 and 4: the first answered no, or 0, and where the second line begins.

@@ -5,23 +5,23 @@ use borrow.Author.Needs.{needs}
 use Rattle.frames.proofs.numbers.hex2.Statement.{statement}
 use Rattle.frames.proofs.numbers.hex2.Tie as tie
 
-shared-slice-read-digit : tie.Need-shared-slice-read-digit
-shared-slice-read-digit c = search needs
+shared-slice-read-digit-value : tie.Need-shared-slice-read-digit-value
+shared-slice-read-digit-value c = search needs
 
-digit-requires : tie.Need-digit-requires
-digit-requires c κs = search needs
+digit-value-requires : tie.Need-digit-value-requires
+digit-value-requires c κs = search needs
 
 mul-result : tie.Need-mul-result
 mul-result c = search needs
 
-add-digit : tie.Need-add-digit
-add-digit c = search needs
+add-digit-value : tie.Need-add-digit-value
+add-digit-value c = search needs
 
-shared-slice-read-digit-2 : tie.Need-shared-slice-read-digit-2
-shared-slice-read-digit-2 c = search needs
+shared-slice-read-digit-value-2 : tie.Need-shared-slice-read-digit-value-2
+shared-slice-read-digit-value-2 c = search needs
 
-digit-requires-2 : tie.Need-digit-requires-2
-digit-requires-2 c κs = search needs
+digit-value-requires-2 : tie.Need-digit-value-requires-2
+digit-value-requires-2 c κs = search needs
 
 add-result : tie.Need-add-result
 add-result c = search needs
@@ -35,11 +35,11 @@ pub hex2-spec : {M : Type 1} → statement M
 hex2-spec =
     tie.close
     (tie.spec
-    shared-slice-read-digit
-    digit-requires
+    shared-slice-read-digit-value
+    digit-value-requires
     mul-result
-    add-digit
-    shared-slice-read-digit-2
-    digit-requires-2
+    add-digit-value
+    shared-slice-read-digit-value-2
+    digit-value-requires-2
     add-result
     returns)

@@ -1,9 +1,9 @@
--- `frames::numbers::digit` meets its contract: the value of a byte, by cases on which digits it is among.
+-- `frames::numbers::digit_value` meets its contract: the value of a byte, by cases on which digits it is among.
 use native.Mathlib.Omega.{arith}
 use borrow.Author.Tests.{le-leb, lt-leb}
 use borrow.Author.Needs.{needs}
-use Rattle.frames.proofs.numbers.digit.Statement.{statement}
-use Rattle.frames.proofs.numbers.digit.Tie as tie
+use Rattle.frames.proofs.numbers.digit_value.Statement.{statement}
+use Rattle.frames.proofs.numbers.digit_value.Tie as tie
 
 cast-result : tie.Need-cast-result
 cast-result c = search needs
@@ -23,5 +23,5 @@ returns-2 c = record { is = simp (le-leb (c .before .before .args .c) 57 (c .bef
 returns-3 : tie.Need-returns-3
 returns-3 c = record { is = simp (lt-leb (c .before .args .c) 57 (c .if1 .left)) (omega arith); small = omega arith }
 
-pub digit-spec : {M : Type 1} → statement M
-digit-spec = tie.close (tie.spec cast-result sub-result cast-result-2 returns returns-2 returns-3)
+pub digit-value-spec : {M : Type 1} → statement M
+digit-value-spec = tie.close (tie.spec cast-result sub-result cast-result-2 returns returns-2 returns-3)
