@@ -22,6 +22,7 @@ pub struct Layout {
     pub end: usize,
 }
 
+// The files of document 01, "Frames".
 pub const GRAPH: Layout = Layout {
     header: 0x01,
     header_size: 4,
@@ -105,24 +106,18 @@ fn body_of(g: &[u8], layout: Layout) -> Body
     let mut count: usize = 0;
     let mut firsts: usize = 0;
     let mut kind = first;
+    let mut number: u8 = 6;
     while at < g.len() {
         let l = line_at(g, at);
         let end = l.end;
         let next = l.next;
         if next == g.len() {
-            return Body {
-                number: end_fault(g, at, end, layout.end, count),
-                count,
-                firsts,
-            };
+            number = end_fault(g, at, end, layout.end, count);
+            break;
         }
         if !is_frame(g, at, end, kind, size) {
             if !is_frame(g, at, end, second, size) {
-                return Body {
-                    number: 6,
-                    count,
-                    firsts,
-                };
+                break;
             }
             kind = second;
         }
@@ -133,7 +128,7 @@ fn body_of(g: &[u8], layout: Layout) -> Body
         at = next;
     }
     Body {
-        number: 6,
+        number,
         count,
         firsts,
     }
@@ -167,6 +162,8 @@ fn header_of(f: &[u8], layout: Layout) -> Header
     }
 }
 
+// `number` is the first question answered no, or 0; `next` is where the second line begins; `count` body lines stand before the end frame,
+// `firsts` of them of the first kind. Where a question is answered no, only `number` is said.
 pub struct Shape {
     pub number: u8,
     pub next: usize,
@@ -174,8 +171,7 @@ pub struct Shape {
     pub firsts: usize,
 }
 
-// Questions 2 to 7, where `header_fits` is the answer to 5: the first answered no, or 0. In that case also where the second line begins,
-// how many body lines there are, and how many of the first kind.
+// Questions 2 to 7, where `header_fits` is the answer to 5.
 pub fn shape_of(f: &[u8], layout: Layout, header_fits: bool) -> Shape
     ensures { λ r. ⌜ ShapeAnswer (formOf layout) (now (f .entry)) «header_fits» (r .number) (r .next) (r .count) (r .firsts) ⌝ }
 {

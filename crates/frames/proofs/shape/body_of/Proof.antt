@@ -1,5 +1,5 @@
--- `frames::shape::body_of` meets its contract. The loop's invariant: what is left of both questions at `at`. The measure is what is left
--- of the lines.
+-- `frames::shape::body_of` meets its contract. The loop's invariant: what is left of both questions at `at`, and the answer is 6 until the
+-- last line is read. The measure is what is left of the lines.
 use mathlib.Core.Path.{_≡_, refl, sym, _∙_}
 use mathlib.Core.Logic.{⊎-elim}
 use Prim.Native.Nat.{ℕ, _-_, _+_}
@@ -14,10 +14,10 @@ use Rattle.frames.proofs.shape.body_of.Statement.{statement}
 use Rattle.frames.proofs.shape.body_of.Tie as tie
 
 abbrev Inv-loop : tie.InvT-loop
-Inv-loop g layout first second size at₀ count₀ firsts₀ kind₀ at count firsts kind = BodyLeft (formOf layout) (layout .first) (layout .second) g at count firsts kind
+Inv-loop g layout first second size at₀ count₀ firsts₀ kind₀ number₀ at count firsts kind number = (number ≡ 6) × BodyLeft (formOf layout) (layout .first) (layout .second) g at count firsts kind
 
 abbrev μ-loop : tie.MeasureT-loop
-μ-loop g layout first second size at₀ count₀ firsts₀ kind₀ at count firsts kind = length g - at
+μ-loop g layout first second size at₀ count₀ firsts₀ kind₀ number₀ at count firsts kind number = length g - at
 
 -- past a body line, whichever kind it has
 next-line : (c : tie.Joined2 Inv-loop μ-loop) (m : ℕ) → m ≡ pick (eqb (c .if2 .kind) (c .before .before .before .before .before .before .before .args .layout .first)) 1 0 + c .before .before .before .before .before .loop .firsts →
@@ -25,7 +25,7 @@ next-line : (c : tie.Joined2 Inv-loop μ-loop) (m : ℕ) → m ≡ pick (eqb (c 
     (c .before .before .before .line-at .result .next) (c .before .before .before .before .before .loop .count + 1) m (c .if2 .kind)
 next-line c m e =
     let l = c .before .before .before .line-at .ensures in
-    let r = c .before .before .before .before .before .loop .inv in
+    let r = c .before .before .before .before .before .loop .inv .1 in
     ⊎-elim
     (λ w.
     rw (w .3)
@@ -35,7 +35,7 @@ next-line c m e =
     (c .if2 .came)
 
 loop-holds : tie.Need-loop-holds Inv-loop μ-loop
-loop-holds c = left-start _ _ _ _ refl
+loop-holds c = (refl, left-start _ _ _ _ refl)
 
 line-at-requires : tie.Need-line-at-requires Inv-loop μ-loop
 line-at-requires c κs = omega arith
@@ -43,19 +43,11 @@ line-at-requires c κs = omega arith
 end-fault-requires : tie.Need-end-fault-requires Inv-loop μ-loop
 end-fault-requires c κs = (omega arith, omega arith)
 
-returns : tie.Need-returns Inv-loop μ-loop
-returns c = answer-end _ _ _ _ _ _ _ _ _ _ (c .before .before .line-at .ensures) (c .before .before .before .before .loop .inv) _ refl (c .before .if1 .taken) (c .end-fault .ensures)
-
 is-frame-requires : tie.Need-is-frame-requires Inv-loop μ-loop
 is-frame-requires c κs = (omega arith, omega arith)
 
 is-frame-requires-2 : tie.Need-is-frame-requires-2 Inv-loop μ-loop
 is-frame-requires-2 c κs = (omega arith, omega arith)
-
-returns-2 : tie.Need-returns-2 Inv-loop μ-loop
-returns-2 c =
-    answer-fail _ _ _ _ _ _ _ _ _ _ (c .before .before .before .before .before .line-at .ensures) (c .before .before .before .before .before .before .before .loop .inv) (omega arith)
-    (sym (c .before .before .before .is-frame .ensures) ∙ not-true _ (c .before .before .if2 .taken)) (sym (c .before .is-frame2 .ensures) ∙ not-true _ (c .if3 .taken))
 
 add-count : tie.Need-add-count Inv-loop μ-loop
 add-count c = omega arith
@@ -67,16 +59,25 @@ loop-less : tie.Need-loop-less Inv-loop μ-loop
 loop-less c = omega arith
 
 loop-again : tie.Need-loop-again Inv-loop μ-loop
-loop-again c = next-line (c .before) _ (first-more _ _ _ (c .if4 .taken))
+loop-again c = (c .before .before .before .before .before .before .loop .inv .0, next-line (c .before) _ (first-more _ _ _ (c .if4 .taken)))
 
 loop-less-2 : tie.Need-loop-less-2 Inv-loop μ-loop
 loop-less-2 c = omega arith
 
 loop-again-2 : tie.Need-loop-again-2 Inv-loop μ-loop
-loop-again-2 c = next-line (c .before) _ (first-same _ _ _ (c .if4 .left))
+loop-again-2 c = (c .before .before .before .before .before .before .loop .inv .0, next-line (c .before) _ (first-same _ _ _ (c .if4 .left)))
+
+returns : tie.Need-returns Inv-loop μ-loop
+returns c = rw (c .before .loop .inv .0) (answer-over _ _ _ _ _ _ _ _ (c .before .loop .inv .1) (c .loop-test .left))
+
+returns-2 : tie.Need-returns-2 Inv-loop μ-loop
+returns-2 c = answer-end _ _ _ _ _ _ _ _ _ _ (c .before .before .line-at .ensures) (c .before .before .before .before .loop .inv .1) _ refl (c .before .if1 .taken) (c .end-fault .ensures)
 
 returns-3 : tie.Need-returns-3 Inv-loop μ-loop
-returns-3 c = answer-over _ _ _ _ _ _ _ _ (c .before .loop .inv) (c .loop-test .left)
+returns-3 c =
+    rw (c .before .before .before .before .before .before .before .loop .inv .0)
+    (answer-fail _ _ _ _ _ _ _ _ _ _ (c .before .before .before .before .before .line-at .ensures) (c .before .before .before .before .before .before .before .loop .inv .1) (omega arith)
+    (sym (c .before .before .before .is-frame .ensures) ∙ not-true _ (c .before .before .if2 .taken)) (sym (c .before .is-frame2 .ensures) ∙ not-true _ (c .if3 .taken)))
 
 pub body-of-spec : {M : Type 1} → statement M
 body-of-spec =
@@ -87,14 +88,14 @@ body-of-spec =
     loop-holds
     line-at-requires
     end-fault-requires
-    returns
     is-frame-requires
     is-frame-requires-2
-    returns-2
     add-count
     add-firsts
     loop-less
     loop-again
     loop-less-2
     loop-again-2
+    returns
+    returns-2
     returns-3)
