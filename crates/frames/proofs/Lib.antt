@@ -7,6 +7,8 @@
 --   BodyFrames    questions 6 and 7, line by line
 --   HeaderFrames  questions 2, 3 and 4, and the first line
 --   ShapeFaults   questions 2 to 7 together
+--   Writes        runs of bytes written one behind the other
+--   Begins        files that begin with a text
 pub mod LineEnds
 pub mod LinePlaces
 pub mod HexNumbers
@@ -15,3 +17,5 @@ pub mod Questions
 pub mod BodyFrames
 pub mod HeaderFrames
 pub mod ShapeFaults
+pub mod Writes
+pub mod Begins

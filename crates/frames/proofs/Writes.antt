@@ -1,0 +1,96 @@
+-- Runs of bytes written one behind the other. Assumes nothing.
+--   sets-append                         a run of stores behind another is one run
+--   written-rest, written-then          the same of what two calls wrote
+--   written-over                        text written at the front: the text, then what stood behind it (document 03's `over`)
+--   hexBytes-length, hexBytes-split     digits: how many; four are the upper two and the lower two
+--   frame2-length .. frameOf4-length    how many bytes a frame takes
+--   hex2-written, hex4-written          two digits as two stores; four as two writes
+--   text-step, text-written             a text written byte by byte
+--   barrierLine-frame                   the fixed bytes of the first line of a barrier are its frame
+use mathlib.Core.Path.{_≡_, refl, _∙_}
+use mathlib.Core.List.{List, [], _∷_, _++_}
+use Prim.Native.Nat.{ℕ, zero, suc, _+_, _/_, _%_, _≤_, _<_}
+use native.Mathlib.Omega.{arith}
+use native.Mathlib.Numerals.{add-one}
+use native.Mathlib.Nat.{add-zero, zero-add}
+use lib.ListN.{length, getD, drop, set, length-append, drop-of-length-le}
+use lib.Seq.{drop-cons, sets, sets-eq}
+use Rattle.frames.specs.Frames.{digitByte, hexBytes, frame2, frame4, frame6, frameOf4}
+use Rattle.frames.specs.Writes.{Written, barrierLine}
+
+-- ONE RUN BEHIND ANOTHER
+pub sets-append : (l : List ℕ) (i : ℕ) (xs ys : List ℕ) → sets (sets l i xs) (i + length xs) ys ≡ sets l i (xs ++ ys)
+sets-append l i [] ys = rw (add-zero i)
+sets-append l i (x ∷ xs) ys =
+    let e : i + suc (length xs) ≡ suc i + length xs = omega arith in
+    rw e (sets-append (set l i x) (suc i) xs ys)
+
+module _ {before : List ℕ} {at size : ℕ} {text after : List ℕ} {next : ℕ} (w : Written before at size text after next) where
+  pub written-rest : (more : List ℕ) → sets after next more ≡ sets before at (text ++ more)
+  written-rest more = rw (w .bytes, w .place, ← w .full) (sets-append before at text more)
+
+  pub written-then : {more later : List ℕ} {count end : ℕ} → Written after next count more later end →
+      Written before at (size + count) (text ++ more) later end
+  written-then {more = more} v =
+      record {
+        bytes = v .bytes ∙ written-rest more;
+        full = length-append text more ∙ omega (arith, w .full, v .full);
+        place = omega (arith, w .place, v .place);
+      }
+
+pub written-over : {before text after : List ℕ} {size next : ℕ} → Written before 0 size text after next → size ≤ length before →
+    (after ≡ text ++ drop (length text) before) × (next ≡ length text)
+written-over {before} {text} w h =
+    let e = sets-eq text before 0 (omega arith) in
+    (w .bytes ∙ rw zero-add at e, omega arith)
+
+-- HOW MANY BYTES
+pub hexBytes-length : (n v : ℕ) → length (hexBytes n v) ≡ n
+unfolding hexBytes
+hexBytes-length zero v = refl
+hexBytes-length (suc n) v = rw (length-append, hexBytes-length n (v / 16)) (omega arith)
+
+pub frame2-length : (k : ℕ) → length (frame2 k) ≡ 3
+frame2-length k = simp (length-append, hexBytes-length)
+
+pub frame4-length : (k a : ℕ) → length (frame4 k a) ≡ 5
+frame4-length k a = simp (length-append, hexBytes-length)
+
+pub frame6-length : (k a b : ℕ) → length (frame6 k a b) ≡ 7
+frame6-length k a b = simp (length-append, hexBytes-length)
+
+pub frameOf4-length : (k v : ℕ) → length (frameOf4 k v) ≡ 7
+frameOf4-length k v = simp (length-append, hexBytes-length)
+
+-- DIGITS
+pub hex2-written : (l : List ℕ) (at v : ℕ) →
+    Written l at 2 (hexBytes 2 v) (set (set l at (digitByte (v / 16 % 16))) (at + 1) (digitByte (v % 16))) (at + 2)
+unfolding hexBytes
+hex2-written l at v = record { bytes = rw add-one; full = refl; place = refl }
+
+hexBytes-split : (v : ℕ) → hexBytes 2 (v / 256) ++ hexBytes 2 v ≡ hexBytes 4 v
+unfolding hexBytes
+hexBytes-split v =
+    let d : v / 256 / 16 ≡ v / 16 / 16 / 16 = omega arith in
+    let e : v / 256 ≡ v / 16 / 16 = omega arith in
+    rw (d, e)
+
+pub hex4-written : {l m n : List ℕ} {at mid next : ℕ} (v : ℕ) → Written l at 2 (hexBytes 2 (v / 256)) m mid →
+    Written m mid 2 (hexBytes 2 v) n next → Written l at 4 (hexBytes 4 v) n next
+hex4-written v a b = rw (hexBytes-split v) at (written-then a b)
+
+-- A TEXT, byte by byte: what is left of it, written from where it stands
+pub text-step : (l : List ℕ) (at i : ℕ) (text : List ℕ) → i < length text →
+    sets (set l (at + i) (getD text i 0)) (at + (i + 1)) (drop (i + 1) text) ≡ sets l (at + i) (drop i text)
+text-step l at i text h =
+    let e : at + (i + 1) ≡ suc (at + i) = omega arith in
+    rw (e, add-one, drop-cons text i 0 h)
+
+pub text-written : (l m : List ℕ) (at i : ℕ) (text : List ℕ) → i ≡ length text → sets m (at + i) (drop i text) ≡ sets l at text →
+    Written l at (length text) text m (at + i)
+text-written l m at i text h e =
+    record { bytes = rw (drop-of-length-le text {i = i} (omega arith)) at e; full = refl; place = omega arith }
+
+pub barrierLine-frame : barrierLine ≡ frame2 49
+unfolding hexBytes
+barrierLine-frame = refl
