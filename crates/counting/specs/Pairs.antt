@@ -1,9 +1,12 @@
 -- A pair of numbers (document 03): an arc's tail and head, a fit's two cameras, the numbers of a body frame.
---   pair a b    the pair of a and b
---   noPair      the pair of zeros, read past a list's end
---   ends xs     the numbers of the pairs, both of each, in order
+--   pair a b           the pair of a and b
+--   noPair             the pair of zeros, read past a list's end
+--   ends xs            the numbers of the pairs, both of each, in order
+--   zipPairs xs ys     two lists, pair by pair, as far as both go
+--   pairsOf n xs ys    the first n elements of both
 use mathlib.Core.List.{List, [], _∷_}
 use Prim.Native.Nat.{ℕ}
+use lib.ListN.{take}
 
 pub record Pair : Type 0 where
   pub first : ℕ
@@ -18,3 +21,11 @@ noPair = pair 0 0
 unfoldable pub ends : List Pair → List ℕ
 ends [] = []
 ends (x ∷ xs) = x .first ∷ x .second ∷ ends xs
+
+unfoldable pub zipPairs : List ℕ → List ℕ → List Pair
+zipPairs [] ys = []
+zipPairs (x ∷ xs) [] = []
+zipPairs (x ∷ xs) (y ∷ ys) = pair x y ∷ zipPairs xs ys
+
+abbrev pub pairsOf : (count : ℕ) → (firsts seconds : List ℕ) → List Pair
+pairsOf n xs ys = zipPairs (take n xs) (take n ys)

@@ -9,6 +9,8 @@
 --   ShapeFaults   questions 2 to 7 together
 --   Writes        runs of bytes written one behind the other
 --   Begins        files that begin with a text
+--   Runs          runs of lines of one kind
+--   Stores        runs of body frames stored line by line
 pub mod LineEnds
 pub mod LinePlaces
 pub mod HexNumbers
@@ -19,3 +21,5 @@ pub mod HeaderFrames
 pub mod ShapeFaults
 pub mod Writes
 pub mod Begins
+pub mod Runs
+pub mod Stores

@@ -4,8 +4,10 @@
 --   Numbers    numbers of digits as code reads them
 --   Shape      the questions of a file's shape as they are read, and what is known of a file that has it
 --   Writes     bytes written into a buffer, or compared with a file's front
+--   Stores     runs of body frames stored in slices
 pub mod Frames
 pub mod Lines
 pub mod Numbers
 pub mod Shape
 pub mod Writes
+pub mod Stores

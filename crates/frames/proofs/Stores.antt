@@ -1,0 +1,170 @@
+-- Runs of body frames, stored line by line. Assumes nothing.
+--   column from size lines           one number of each line
+--   Passing kind g at i n            of the run that begins at `at`, n lines are passed, and i is the place reached
+--   Filling from size .. slice       with what is left of the run stored behind them, the slice is as the whole run stored would leave it
+--   Stopped kind g i                 no line of the kind stands at i
+--   line-long, line-small            what a line that is passed is known by: its length, and its numbers' bounds
+--   passing-room                     an element is left for a line of the run
+--   passing-on, filling-on           past a line of the kind
+--   stopped-other, stopped-over      a line of another kind, or no line, stops the run
+--   stored-pairs, stored-numbers     what is stored then
+--   storable-next                    the lines past a run can be stored too
+use mathlib.Core.Path.{_≡_, refl, ap, sym, _∙_}
+use mathlib.Core.Logic.{_≢_}
+use mathlib.Core.Bool.{true, false}
+use mathlib.Core.List.{List, [], _∷_, _++_, map}
+use Prim.Native.Nat.{ℕ, _+_, _^_, _≤_, _<_}
+use native.Mathlib.Nat.{add-zero, zero-add}
+use native.Mathlib.Numerals.{add-one}
+use native.Mathlib.Omega.{arith}
+use lib.Dec.{leb}
+use lib.ListN.{length, take, drop, set, length-map, length-set, drop-of-length-le}
+use lib.Seq.{sets, sets-eq, take-at, drop-at}
+use borrow.Author.Tests.{eq-eqb, ne-eqb, leb-true}
+use Rattle.counting.specs.Tests.{all}
+use Rattle.counting.specs.Pairs.{zipPairs}
+use Rattle.counting.proofs.Booleans.{and-left, and-right, by-test}
+use Rattle.frames.specs.Frames.{linesOf, isDigit, hexAt, kindOf, pairsIn, numbersIn}
+use Rattle.frames.specs.Lines.{part, LineAt}
+use Rattle.frames.specs.Stores.{hasKind, runOf, pastRun, runAt, isLong, Storable, Passed, StoredPairs, StoredNumbers}
+use Rattle.frames.proofs.LinePlaces.{lines-here, part-length}
+use Rattle.frames.proofs.HexNumbers.{hex-part, hex-small-part}
+use Rattle.frames.proofs.Runs.{run-kept, past-kept, run-none, past-none, run-nil, past-nil, past-each}
+
+abbrev pub column : (from size : ℕ) → List (List ℕ) → List ℕ
+column i n ls = map (hexAt i n) ls
+
+pub record Passing (kind : ℕ) (g : List ℕ) (at i n : ℕ) : Type 0 where
+  pub left : Storable g i
+  pub counts : n + length (runAt kind g i) ≡ length (runAt kind g at)
+  pub rest : pastRun kind (linesOf (drop i g)) ≡ pastRun kind (linesOf (drop at g))
+  pub low : at ≤ i
+
+pub record Filling (from size kind : ℕ) (g : List ℕ) (at i n : ℕ) (before slice : List ℕ) : Type 0 where
+  pub filled : sets slice n (column from size (runAt kind g i)) ≡ sets before 0 (column from size (runAt kind g at))
+  pub same : length slice ≡ length before
+
+abbrev pub Stopped : (kind : ℕ) → (g : List ℕ) → (i : ℕ) → Type 0
+Stopped kind g i = (runAt kind g i ≡ []) × (pastRun kind (linesOf (drop i g)) ≡ linesOf (drop i g))
+
+-- A LINE of the run, or one that stops it
+module _ {kind : ℕ} {g : List ℕ} {at i end next n : ℕ} (h : LineAt g i end next) (p : Passing kind g at i n) where
+  here : isLong 6 (part i end g) ≡ true
+  unfolding all
+  here = and-left (isLong 6 (part i end g)) (all (isLong 6) (linesOf (drop next g))) (rw (lines-here g i end next h) at (p .left .long))
+
+  beyond : all (isLong 6) (linesOf (drop next g)) ≡ true
+  unfolding all
+  beyond = and-right (isLong 6 (part i end g)) (all (isLong 6) (linesOf (drop next g))) (rw (lines-here g i end next h) at (p .left .long))
+
+  pub line-long : i + 6 ≤ end
+  line-long =
+      let e = part-length i end g (omega arith) in
+      let l : 6 ≤ length (part i end g) = leb-true _ _ (and-left (leb 6 (length (part i end g))) (all isDigit (part i end g)) here) in
+      omega arith
+
+  pub line-small : (from size : ℕ) → from + size ≤ 6 → hexAt (i + from) size g < 16 ^ size
+  line-small from size o =
+      let l = line-long in
+      hex-small-part from size i end g (omega arith) (and-right (leb 6 (length (part i end g))) (all isDigit (part i end g)) here)
+
+  line-kind : kindOf (part i end g) ≡ hexAt i 2 g
+  line-kind = let l = line-long in hex-part 0 2 i end g (omega arith) ∙ ap (λ (j : ℕ). hexAt j 2 g) (add-zero i)
+
+  pub stopped-other : hexAt i 2 g ≢ kind → Stopped kind g i
+  stopped-other d =
+      let z : hasKind kind (part i end g) ≡ false = rw line-kind (ne-eqb _ _ d) in
+      rw (lines-here g i end next h) (run-none kind (part i end g) (linesOf (drop next g)) z, past-none kind (part i end g) (linesOf (drop next g)) z)
+
+  module _ (e : hexAt i 2 g ≡ kind) where
+    of-kind : hasKind kind (part i end g) ≡ true
+    of-kind = rw line-kind (eq-eqb _ _ e)
+
+    run-here : runAt kind g i ≡ part i end g ∷ runAt kind g next
+    run-here = ap (runOf kind) (lines-here g i end next h) ∙ run-kept kind (part i end g) (linesOf (drop next g)) of-kind
+
+    pub passing-room : n < length (runAt kind g at)
+    passing-room = omega (arith, p .counts, ap length run-here)
+
+    pub passing-on : Passing kind g at next (n + 1)
+    passing-on =
+        record {
+          left = record { inside = h .high; long = beyond };
+          counts = omega (arith, p .counts, ap length run-here);
+          rest =
+              sym (past-kept kind (part i end g) (linesOf (drop next g)) of-kind) ∙
+              ap (pastRun kind) (sym (lines-here g i end next h)) ∙ p .rest;
+          low = omega (arith, h, p);
+        }
+
+    pub filling-on : {from size : ℕ} {before slice : List ℕ} → from + size ≤ 6 → Filling from size kind g at i n before slice →
+        Filling from size kind g at next (n + 1) before (set slice n (hexAt (i + from) size g))
+    filling-on {from} {size} {before} {slice} o s =
+        let l = line-long in
+        record {
+          filled =
+              rw (add-one, ← hex-part from size i end g (omega arith))
+              (ap (λ (ls : List (List ℕ)). sets slice n (column from size ls)) (sym run-here) ∙ s .filled);
+          same = length-set slice n (hexAt (i + from) size g) ∙ s .same;
+        }
+
+pub stopped-over : (kind : ℕ) (g : List ℕ) (i : ℕ) → length g ≤ i → Stopped kind g i
+unfolding linesOf
+stopped-over kind g i o = rw (drop-of-length-le g o) (run-nil kind, past-nil kind)
+
+-- WHAT IS STORED
+column-numbers : (ls : List (List ℕ)) → numbersIn ls ≡ column 2 4 ls
+unfolding numbersIn
+column-numbers [] = refl
+column-numbers (l ∷ ls) = ap (λ (xs : List ℕ). hexAt 2 4 l ∷ xs) (column-numbers ls)
+
+column-pairs : (kind : ℕ) (ls : List (List ℕ)) → pairsIn kind (runOf kind ls) ≡ zipPairs (column 2 2 (runOf kind ls)) (column 4 2 (runOf kind ls))
+unfolding runOf pairsIn zipPairs
+column-pairs kind [] = refl
+column-pairs kind (l ∷ ls) = by-test (hasKind kind l) (λ e. rw (e, e, column-pairs kind ls)) (λ e. rw e)
+
+module _ {kind : ℕ} {g : List ℕ} {at i n : ℕ} (p : Passing kind g at i n) (stop : Stopped kind g i) where
+  all-passed : Passed kind g at n i
+  all-passed =
+      record {
+        counts = omega (arith, p .counts, ap length (stop .0));
+        rest = sym (stop .1) ∙ p .rest;
+        low = p .low;
+        high = p .left .inside;
+      }
+
+  module _ {from size : ℕ} {before slice : List ℕ} (s : Filling from size kind g at i n before slice)
+      (room : length (runAt kind g at) ≤ length before) where
+    size-stored : length (column from size (runAt kind g at)) ≡ n
+    size-stored = length-map (runAt kind g at) (hexAt from size) ∙ sym (all-passed .counts)
+
+    whole-stored : slice ≡ column from size (runAt kind g at) ++ drop n before
+    whole-stored =
+        let k : 0 + length (column from size (runAt kind g at)) ≡ n = zero-add _ ∙ size-stored in
+        let e = rw (stop .0) at (s .filled) in
+        e ∙ sets-eq (column from size (runAt kind g at)) before 0 (omega arith) ∙ rw k
+
+    column-stored : take n slice ≡ column from size (runAt kind g at)
+    column-stored = rw whole-stored (take-at (column from size (runAt kind g at)) (drop n before) n size-stored)
+
+    column-kept : drop n slice ≡ drop n before
+    column-kept = rw whole-stored (drop-at (column from size (runAt kind g at)) (drop n before) n size-stored)
+
+  pub stored-pairs : {firsts seconds a b : List ℕ} → Filling 2 2 kind g at i n firsts a → Filling 4 2 kind g at i n seconds b →
+      length (runAt kind g at) ≤ length firsts → length (runAt kind g at) ≤ length seconds → StoredPairs kind g at firsts seconds a b n i
+  stored-pairs s t u v =
+      record {
+        passed = all-passed;
+        pairs = rw (column-stored s u, column-stored t v) (sym (column-pairs kind (linesOf (drop at g))));
+        firstsKept = column-kept s u;
+        secondsKept = column-kept t v;
+      }
+
+  pub stored-numbers : {out a : List ℕ} → Filling 2 4 kind g at i n out a → length (runAt kind g at) ≤ length out →
+      StoredNumbers kind g at out a n i
+  stored-numbers s u =
+      record { passed = all-passed; numbers = column-stored s u ∙ sym (column-numbers (runAt kind g at)); kept = column-kept s u }
+
+pub storable-next : {kind : ℕ} {g : List ℕ} {at count next : ℕ} → Storable g at → Passed kind g at count next → Storable g next
+storable-next {kind} {g} {at} s p =
+    record { inside = p .high; long = rw (p .rest) (past-each (isLong 6) kind (linesOf (drop at g)) (s .long)) }
