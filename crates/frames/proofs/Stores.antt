@@ -3,7 +3,8 @@
 --   Passing kind g at i n            of the run that begins at `at`, n lines are passed, and i is the place reached
 --   Filling from size .. slice       with what is left of the run stored behind them, the slice is as the whole run stored would leave it
 --   Stopped kind g i                 no line of the kind stands at i
---   line-long, line-small            what a line that is passed is known by: its length, and its numbers' bounds
+--   LineNumbers g i end              the line at i is long enough for a body frame, and how large its numbers are
+--   line-numbers                     a line that is passed is
 --   passing-room                     an element is left for a line of the run
 --   passing-on, filling-on           past a line of the kind
 --   stopped-other, stopped-over      a line of another kind, or no line, stops the run
@@ -13,7 +14,7 @@ use mathlib.Core.Path.{_≡_, refl, ap, sym, _∙_}
 use mathlib.Core.Logic.{_≢_}
 use mathlib.Core.Bool.{true, false}
 use mathlib.Core.List.{List, [], _∷_, _++_, map}
-use Prim.Native.Nat.{ℕ, _+_, _^_, _≤_, _<_}
+use Prim.Native.Nat.{ℕ, _+_, _≤_, _<_}
 use native.Mathlib.Nat.{add-zero, zero-add}
 use native.Mathlib.Numerals.{add-one}
 use native.Mathlib.Omega.{arith}
@@ -47,6 +48,12 @@ pub record Filling (from size kind : ℕ) (g : List ℕ) (at i n : ℕ) (before 
 abbrev pub Stopped : (kind : ℕ) → (g : List ℕ) → (i : ℕ) → Type 0
 Stopped kind g i = (runAt kind g i ≡ []) × (pastRun kind (linesOf (drop i g)) ≡ linesOf (drop i g))
 
+pub record LineNumbers (g : List ℕ) (i end : ℕ) : Type 0 where
+  pub long : i + 6 ≤ end
+  pub first : hexAt (i + 2) 2 g < 256
+  pub second : hexAt (i + 4) 2 g < 256
+  pub number : hexAt (i + 2) 4 g < 65536
+
 -- A LINE of the run, or one that stops it
 module _ {kind : ℕ} {g : List ℕ} {at i end next n : ℕ} (h : LineAt g i end next) (p : Passing kind g at i n) where
   here : isLong 6 (part i end g) ≡ true
@@ -57,16 +64,22 @@ module _ {kind : ℕ} {g : List ℕ} {at i end next n : ℕ} (h : LineAt g i end
   unfolding all
   beyond = and-right (isLong 6 (part i end g)) (all (isLong 6) (linesOf (drop next g))) (rw (lines-here g i end next h) at (p .left .long))
 
-  pub line-long : i + 6 ≤ end
+  line-long : i + 6 ≤ end
   line-long =
       let e = part-length i end g (omega arith) in
       let l : 6 ≤ length (part i end g) = leb-true _ _ (and-left (leb 6 (length (part i end g))) (all isDigit (part i end g)) here) in
       omega arith
 
-  pub line-small : (from size : ℕ) → from + size ≤ 6 → hexAt (i + from) size g < 16 ^ size
-  line-small from size o =
+  pub line-numbers : LineNumbers g i end
+  line-numbers =
       let l = line-long in
-      hex-small-part from size i end g (omega arith) (and-right (leb 6 (length (part i end g))) (all isDigit (part i end g)) here)
+      let d = and-right (leb 6 (length (part i end g))) (all isDigit (part i end g)) here in
+      record {
+        long = l;
+        first = hex-small-part 2 2 i end g (omega arith) d;
+        second = hex-small-part 4 2 i end g (omega arith) d;
+        number = hex-small-part 2 4 i end g (omega arith) d;
+      }
 
   line-kind : kindOf (part i end g) ≡ hexAt i 2 g
   line-kind = let l = line-long in hex-part 0 2 i end g (omega arith) ∙ ap (λ (j : ℕ). hexAt j 2 g) (add-zero i)

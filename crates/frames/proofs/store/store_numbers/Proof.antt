@@ -3,7 +3,7 @@ use mathlib.Core.Path.{sym, _∙_}
 use Prim.Native.Nat.{_-_}
 use native.Mathlib.Omega.{arith}
 use lib.ListN.{length}
-use Rattle.frames.proofs.Stores.{Passing, Filling, line-long, line-small, passing-room, passing-on, filling-on, stopped-other, stopped-over, stored-numbers}
+use Rattle.frames.proofs.Stores.{Passing, Filling, line-numbers, passing-room, passing-on, filling-on, stopped-other, stopped-over, stored-numbers}
 use borrow.Author.Needs.{needs}
 use Rattle.frames.proofs.store.store_numbers.Statement.{statement}
 use Rattle.frames.proofs.store.store_numbers.Tie as tie
@@ -21,7 +21,7 @@ line-at-requires : tie.Need-line-at-requires Inv-loop μ-loop
 line-at-requires c κs = search needs
 
 hex2-requires : tie.Need-hex2-requires Inv-loop μ-loop
-hex2-requires c κs = let w = line-long (c .line-at .ensures) (c .before .before .loop .inv .0) in omega arith
+hex2-requires c κs = let w = line-numbers (c .line-at .ensures) (c .before .before .loop .inv .0) in omega arith
 
 same-length : tie.Need-same-length Inv-loop μ-loop
 same-length c = search needs
@@ -37,11 +37,11 @@ add-hex4 c = search needs
 
 hex4-requires : tie.Need-hex4-requires Inv-loop μ-loop
 hex4-requires c κs =
-    let w = line-long (c .before .before .line-at .ensures) (c .before .before .before .before .loop .inv .0) in omega arith
+    let w = line-numbers (c .before .before .line-at .ensures) (c .before .before .before .before .loop .inv .0) in omega arith
 
 cast-out : tie.Need-cast-out Inv-loop μ-loop
 cast-out c =
-    let w = line-small (c .before .before .before .line-at .ensures) (c .before .before .before .before .before .loop .inv .0) 2 4 (omega arith) in omega arith
+    let w = line-numbers (c .before .before .before .line-at .ensures) (c .before .before .before .before .before .loop .inv .0) in omega arith
 
 mul-out : tie.Need-mul-out Inv-loop μ-loop
 mul-out c = search needs

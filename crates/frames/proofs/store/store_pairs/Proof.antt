@@ -3,7 +3,7 @@ use mathlib.Core.Path.{sym, _∙_}
 use Prim.Native.Nat.{_-_}
 use native.Mathlib.Omega.{arith}
 use lib.ListN.{length}
-use Rattle.frames.proofs.Stores.{Passing, Filling, line-long, line-small, passing-room, passing-on, filling-on, stopped-other, stopped-over, stored-pairs}
+use Rattle.frames.proofs.Stores.{Passing, Filling, line-numbers, passing-room, passing-on, filling-on, stopped-other, stopped-over, stored-pairs}
 use borrow.Author.Needs.{needs}
 use Rattle.frames.proofs.store.store_pairs.Statement.{statement}
 use Rattle.frames.proofs.store.store_pairs.Tie as tie
@@ -22,7 +22,7 @@ line-at-requires : tie.Need-line-at-requires Inv-loop μ-loop
 line-at-requires c κs = search needs
 
 hex2-requires : tie.Need-hex2-requires Inv-loop μ-loop
-hex2-requires c κs = let w = line-long (c .line-at .ensures) (c .before .before .loop .inv .0) in omega arith
+hex2-requires c κs = let w = line-numbers (c .line-at .ensures) (c .before .before .loop .inv .0) in omega arith
 
 same-length : tie.Need-same-length Inv-loop μ-loop
 same-length c = search needs
@@ -41,11 +41,11 @@ add-hex2 c = search needs
 
 hex2-requires-2 : tie.Need-hex2-requires-2 Inv-loop μ-loop
 hex2-requires-2 c κs =
-    let w = line-long (c .before .before .line-at .ensures) (c .before .before .before .before .loop .inv .0) in omega arith
+    let w = line-numbers (c .before .before .line-at .ensures) (c .before .before .before .before .loop .inv .0) in omega arith
 
 cast-firsts : tie.Need-cast-firsts Inv-loop μ-loop
 cast-firsts c =
-    let w = line-small (c .before .before .before .line-at .ensures) (c .before .before .before .before .before .loop .inv .0) 2 2 (omega arith) in omega arith
+    let w = line-numbers (c .before .before .before .line-at .ensures) (c .before .before .before .before .before .loop .inv .0) in omega arith
 
 slice-write-firsts : tie.Need-slice-write-firsts Inv-loop μ-loop
 slice-write-firsts c =
@@ -58,11 +58,11 @@ add-hex2-2 c = search needs
 
 hex2-requires-3 : tie.Need-hex2-requires-3 Inv-loop μ-loop
 hex2-requires-3 c κs =
-    let w = line-long (c .before .before .before .line-at .ensures) (c .before .before .before .before .before .loop .inv .0) in omega arith
+    let w = line-numbers (c .before .before .before .line-at .ensures) (c .before .before .before .before .before .loop .inv .0) in omega arith
 
 cast-seconds : tie.Need-cast-seconds Inv-loop μ-loop
 cast-seconds c =
-    let w = line-small (c .before .before .before .before .line-at .ensures) (c .before .before .before .before .before .before .loop .inv .0) 4 2 (omega arith) in omega arith
+    let w = line-numbers (c .before .before .before .before .line-at .ensures) (c .before .before .before .before .before .before .loop .inv .0) in omega arith
 
 slice-write-seconds : tie.Need-slice-write-seconds Inv-loop μ-loop
 slice-write-seconds c =
