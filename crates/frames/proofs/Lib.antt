@@ -11,6 +11,7 @@
 --   Begins        files that begin with a text
 --   Runs          runs of lines of one kind
 --   Stores        runs of body frames stored line by line
+--   StoredBodies  what storing the runs of a file gives: its pairs and numbers
 pub mod LineEnds
 pub mod LinePlaces
 pub mod HexNumbers
@@ -23,3 +24,4 @@ pub mod Writes
 pub mod Begins
 pub mod Runs
 pub mod Stores
+pub mod StoredBodies

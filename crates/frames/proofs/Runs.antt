@@ -3,7 +3,7 @@
 --   run-none, past-none          a line of another kind at the front
 --   run-nil, past-nil            no line
 --   past-each                    what holds of all lines holds of those past a run
---   frames-kind                  frames of a kind have that kind
+--   other-kind, frames-kind      a line of one kind is of no other; frames of a kind have that kind
 --   run-append, past-append      lines of the kind before others
 --   run-only                     lines of one kind, then one of another: the run is all but that one
 --   run-first, past-first        lines of one kind, then of a second kind, then one of neither: the first run, what stands past it,
@@ -55,7 +55,7 @@ past-each p k [] h = refl
 past-each p k (l ∷ ls) h = by-test (hasKind k l) (λ e. rw e (past-each p k ls (and-right (p l) (all p ls) h))) (λ e. rw e h)
 
 -- KINDS
-other-kind : (k m : ℕ) (l : List ℕ) → hasKind m l ≡ true → m ≢ k → hasKind k l ≡ false
+pub other-kind : (k m : ℕ) (l : List ℕ) → hasKind m l ≡ true → m ≢ k → hasKind k l ≡ false
 other-kind k m l h n = let e : kindOf l ≡ m = eqb-true _ _ h in ne-eqb _ _ (λ (q : kindOf l ≡ k). n (sym e ∙ q))
 
 pub frames-kind : (k n : ℕ) (ls : List (List ℕ)) → all (isFrameOf k n) ls ≡ true → all (hasKind k) ls ≡ true
