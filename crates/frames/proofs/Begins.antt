@@ -134,7 +134,7 @@ module _ (f : List ℕ) (whole : isWholeFile f ≡ true) (some : 0 < length f) (
       let h = line .high in
       ⊎-elim (λ e. e) (λ n. let a = end-other f end (omega arith) n in absurd (omega arith)) (same-or (getD f end 0) 10)
 
-  pub header-begins : beginsBarrier f ≡ true
+  header-begins : beginsBarrier f ≡ true
   header-begins =
       let d = barrier-digits (getD f 0 0) (getD f 1 0) (digit 0 (omega arith)) (digit 1 (omega arith)) number in
       let e : getD f 2 0 ≡ 10 = rw size at ended in

@@ -9,6 +9,7 @@
 --   ShapeFaults   questions 2 to 7 together
 --   Writes        runs of bytes written one behind the other
 --   Begins        files that begin with a text
+--   LineCounts    how many lines a file of so many bytes has
 --   Runs          runs of lines of one kind
 --   Stores        runs of body frames stored line by line
 --   StoredBodies  what storing the runs of a file gives: its pairs and numbers
@@ -22,6 +23,7 @@ pub mod HeaderFrames
 pub mod ShapeFaults
 pub mod Writes
 pub mod Begins
+pub mod LineCounts
 pub mod Runs
 pub mod Stores
 pub mod StoredBodies

@@ -63,14 +63,14 @@ frames-kind k n ls h = each-all (hasKind k) ls (λ l i. and-left (hasKind k l) _
 
 -- LINES OF A KIND before others
 module _ (k : ℕ) (ms : List (List ℕ)) where
-  pub run-append : (ls : List (List ℕ)) → all (hasKind k) ls ≡ true → runOf k (ls ++ ms) ≡ ls ++ runOf k ms
+  run-append : (ls : List (List ℕ)) → all (hasKind k) ls ≡ true → runOf k (ls ++ ms) ≡ ls ++ runOf k ms
   unfolding all
   run-append [] h = refl
   run-append (l ∷ ls) h =
       run-kept k l (ls ++ ms) (and-left (hasKind k l) (all (hasKind k) ls) h) ∙
       ap (λ (rs : List (List ℕ)). l ∷ rs) (run-append ls (and-right (hasKind k l) (all (hasKind k) ls) h))
 
-  pub past-append : (ls : List (List ℕ)) → all (hasKind k) ls ≡ true → pastRun k (ls ++ ms) ≡ pastRun k ms
+  past-append : (ls : List (List ℕ)) → all (hasKind k) ls ≡ true → pastRun k (ls ++ ms) ≡ pastRun k ms
   unfolding all
   past-append [] h = refl
   past-append (l ∷ ls) h =
@@ -82,13 +82,13 @@ pub run-only : (k : ℕ) (ls : List (List ℕ)) (last : List ℕ) → all (hasKi
 run-only k ls last h z = run-append k (last ∷ []) ls h ∙ rw (run-none k last [] z) (append-nil ls)
 
 -- PAIRS of a kind
-pub pairs-append : (k : ℕ) (ls ms : List (List ℕ)) → pairsIn k (ls ++ ms) ≡ pairsIn k ls ++ pairsIn k ms
+pairs-append : (k : ℕ) (ls ms : List (List ℕ)) → pairsIn k (ls ++ ms) ≡ pairsIn k ls ++ pairsIn k ms
 unfolding pairsIn
 pairs-append k [] ms = refl
 pairs-append k (l ∷ ls) ms =
     by-test (hasKind k l) (λ e. rw e (ap (λ (ps : List Pair). pairIn l ∷ ps) (pairs-append k ls ms))) (λ e. rw e (pairs-append k ls ms))
 
-pub pairs-other : (k m : ℕ) (ls : List (List ℕ)) → all (hasKind m) ls ≡ true → m ≢ k → pairsIn k ls ≡ []
+pairs-other : (k m : ℕ) (ls : List (List ℕ)) → all (hasKind m) ls ≡ true → m ≢ k → pairsIn k ls ≡ []
 unfolding all pairsIn
 pairs-other k m [] h n = refl
 pairs-other k m (l ∷ ls) h n =
@@ -116,7 +116,7 @@ module _ (k m : ℕ) (apart : m ≢ k) (ls ms : List (List ℕ)) (of-k : all (ha
     run-first =
         rw (append-assoc ls ms (last ∷ [])) (run-append k (ms ++ last ∷ []) ls of-k ∙ rw (turned ms of-m .0) (append-nil ls))
 
-    pub past-first : pastRun k (ls ++ ms ++ last ∷ []) ≡ ms ++ last ∷ []
+    past-first : pastRun k (ls ++ ms ++ last ∷ []) ≡ ms ++ last ∷ []
     past-first = rw (append-assoc ls ms (last ∷ [])) (past-append k (ms ++ last ∷ []) ls of-k ∙ turned ms of-m .1)
 
     pub run-second : hasKind m last ≡ false → runOf m (pastRun k (ls ++ ms ++ last ∷ [])) ≡ ms

@@ -2,6 +2,7 @@
 -- Assumes nothing.
 --   lines-after                     from the second line on: the body lines of the first kind, those of the last, the end frame
 --   body-storable                   these lines can be stored
+--   body-few                        how many body lines there are at most, by the file's length
 --   only-run, only-size             a body of one kind: its run is the body, as long as the end frame says
 --   only-pairs, only-numbers        what is stored of it is what document 03 reads
 --   first-run, first-size, first-pairs       a body of two kinds: the run at the front is the lines of the first kind
@@ -10,10 +11,10 @@ use mathlib.Core.Path.{_≡_, ap, sym, _∙_}
 use mathlib.Core.Logic.{_≢_}
 use mathlib.Core.Bool.{true, false}
 use mathlib.Core.List.{List, [], _∷_, _++_}
-use Prim.Native.Nat.{ℕ, _+_, _-_, _≤_}
+use Prim.Native.Nat.{ℕ, _+_, _*_, _-_, _≤_}
 use native.Mathlib.Omega.{arith}
 use lib.Dec.{eqb, leb}
-use lib.ListN.{length, take, drop, length-drop, take-append-drop}
+use lib.ListN.{length, take, drop, length-append, length-drop, take-append-drop}
 use lib.Seq.{length-take-le}
 use borrow.Author.Tests.{eqb-true, le-leb}
 use Rattle.counting.specs.Tests.{all}
@@ -25,6 +26,7 @@ use Rattle.frames.specs.Shape.{firstKind, lastKind, Shaped}
 use Rattle.frames.specs.Stores.{hasKind, runOf, pastRun, runAt, isLong, Storable, Passed}
 use Rattle.frames.proofs.LinePlaces.{all-append}
 use Rattle.frames.proofs.BodyFrames.{split-last}
+use Rattle.frames.proofs.LineCounts.{long-few}
 use Rattle.frames.proofs.Runs.{other-kind, frames-kind, run-only, run-first, run-second, pairs-first, pairs-second}
 
 plain-long : (n m : ℕ) (l : List ℕ) → n ≤ m → isPlain m l ≡ true → isLong n l ≡ true
@@ -33,14 +35,14 @@ plain-long n m l h p =
     and-both (leb n (length l)) (all isDigit l) (le-leb n (length l) (omega arith)) (and-right (eqb (length l) m) (all isDigit l) p)
 
 module _ {form : Form} {f : List ℕ} {next count firsts : ℕ} (s : Shaped form f next count firsts) where
-  lines-end : linesOf (drop next f) ≡ bodyLines f ++ lastLine f ∷ []
-  lines-end = sym (s .rest) ∙ split-last (restLines f) (s .some)
+  lines-split : linesOf (drop next f) ≡ bodyLines f ++ lastLine f ∷ []
+  lines-split = sym (s .rest) ∙ split-last (restLines f) (s .some)
 
   body-split : take firsts (bodyLines f) ++ drop firsts (bodyLines f) ≡ bodyLines f
   body-split = take-append-drop firsts (bodyLines f)
 
   lines-after : linesOf (drop next f) ≡ take firsts (bodyLines f) ++ drop firsts (bodyLines f) ++ lastLine f ∷ []
-  lines-after = lines-end ∙ ap (λ (ls : List (List ℕ)). ls ++ lastLine f ∷ []) (sym body-split)
+  lines-after = lines-split ∙ ap (λ (ls : List (List ℕ)). ls ++ lastLine f ∷ []) (sym body-split)
 
   firsts-of : (k : ℕ) → firstKind form ≡ k → all (hasKind k) (take firsts (bodyLines f)) ≡ true
   firsts-of k e = rw (← e) (frames-kind (firstKind form) (form .bodySize) (take firsts (bodyLines f)) (s .firstRun))
@@ -58,14 +60,21 @@ module _ {form : Form} {f : List ℕ} {next count firsts : ℕ} (s : Shaped form
       each-all (isLong 6) (bodyLines f)
       (λ l i. plain-long 6 (2 + form .bodySize) l (omega arith) (all-each (isPlain (2 + form .bodySize)) (bodyLines f) (s .plainBody) l i)) in
       let last : isLong 6 (lastLine f) ≡ true = plain-long 6 6 (lastLine f) (omega arith) (s .plainEnd) in
-      record { inside = s .header .high; long = rw lines-end (all-append (isLong 6) (bodyLines f) (lastLine f ∷ []) each (rw last)) }
+      record { inside = s .header .high; long = rw lines-split (all-append (isLong 6) (bodyLines f) (lastLine f ∷ []) each (rw last)) }
+
+  pub body-few : 4 ≤ form .bodySize → 7 * (count + 1) ≤ length f + 1
+  body-few h =
+      let n : length (linesOf (drop next f)) ≡ length (bodyLines f) + 1 = ap length lines-split ∙ length-append (bodyLines f) (lastLine f ∷ []) in
+      let b = long-few (drop next f) (body-storable h .long) in
+      let d = length-drop next f in
+      omega (arith, s .counts)
 
   -- ONE KIND
   module _ (k : ℕ) (first : firstKind form ≡ k) (last : lastKind form ≡ k) (ends : form .end ≢ k) where
     pub only-run : runAt k f next ≡ bodyLines f
     only-run =
         let kinds = all-append (hasKind k) (take firsts (bodyLines f)) (drop firsts (bodyLines f)) (firsts-of k first) (lasts-of k last) in
-        ap (runOf k) lines-end ∙ run-only k (bodyLines f) (lastLine f) (rw body-split at kinds) (end-not k ends)
+        ap (runOf k) lines-split ∙ run-only k (bodyLines f) (lastLine f) (rw body-split at kinds) (end-not k ends)
 
     pub only-size : length (runAt k f next) ≡ count
     only-size = ap length only-run ∙ sym (s .counts)
