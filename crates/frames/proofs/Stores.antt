@@ -15,12 +15,12 @@ use mathlib.Core.Logic.{_≢_}
 use mathlib.Core.Bool.{true, false}
 use mathlib.Core.List.{List, [], _∷_, _++_, map}
 use Prim.Native.Nat.{ℕ, _+_, _≤_, _<_}
-use native.Mathlib.Nat.{add-zero, zero-add}
+use native.Mathlib.Nat.{add-zero}
 use native.Mathlib.Numerals.{add-one}
 use native.Mathlib.Omega.{arith}
 use lib.Dec.{leb}
 use lib.ListN.{length, take, drop, set, length-map, length-set, drop-of-length-le}
-use lib.Seq.{sets, sets-eq, take-at, drop-at}
+use lib.Seq.{sets, take-at, drop-at}
 use borrow.Author.Tests.{eq-eqb, ne-eqb, leb-true}
 use Rattle.counting.specs.Tests.{all}
 use Rattle.counting.specs.Pairs.{zipPairs}
@@ -30,6 +30,7 @@ use Rattle.frames.specs.Lines.{part, LineAt}
 use Rattle.frames.specs.Stores.{hasKind, runOf, pastRun, runAt, isLong, Storable, Passed, StoredPairs, StoredNumbers}
 use Rattle.frames.proofs.LinePlaces.{lines-here, part-length}
 use Rattle.frames.proofs.HexNumbers.{hex-part, hex-small-part}
+use Rattle.frames.proofs.Writes.{sets-over}
 use Rattle.frames.proofs.Runs.{run-kept, past-kept, run-none, past-none, run-nil, past-nil, past-each}
 
 abbrev pub column : (from size : ℕ) → List (List ℕ) → List ℕ
@@ -153,9 +154,8 @@ module _ {kind : ℕ} {g : List ℕ} {at i n : ℕ} (p : Passing kind g at i n) 
 
     whole-stored : slice ≡ column from size (runAt kind g at) ++ drop n before
     whole-stored =
-        let k : 0 + length (column from size (runAt kind g at)) ≡ n = zero-add _ ∙ size-stored in
         let e = rw (stop .0) at (s .filled) in
-        e ∙ sets-eq (column from size (runAt kind g at)) before 0 (omega arith) ∙ rw k
+        e ∙ sets-over (column from size (runAt kind g at)) before (omega (arith, size-stored, all-passed .counts)) ∙ rw size-stored
 
     column-stored : take n slice ≡ column from size (runAt kind g at)
     column-stored = rw whole-stored (take-at (column from size (runAt kind g at)) (drop n before) n size-stored)

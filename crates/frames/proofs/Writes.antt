@@ -1,7 +1,8 @@
 -- Runs of bytes written one behind the other. Assumes nothing.
 --   sets-append                         a run of stores behind another is one run
+--   sets-over                           a run of stores at the front: what is stored, then what stood behind it (document 03's `over`)
 --   written-rest, written-then          the same of what two calls wrote
---   written-over                        text written at the front: the text, then what stood behind it (document 03's `over`)
+--   written-over                        the same of a text written at the front
 --   hexBytes-length, hexBytes-split     digits: how many; four are the upper two and the lower two
 --   frame2-length .. frameOf4-length    how many bytes a frame takes
 --   hex2-written, hex4-written          two digits as two stores; four as two writes
@@ -25,6 +26,9 @@ sets-append l i (x ∷ xs) ys =
     let e : i + suc (length xs) ≡ suc i + length xs = omega arith in
     rw e (sets-append (set l i x) (suc i) xs ys)
 
+pub sets-over : (xs l : List ℕ) → length xs ≤ length l → sets l 0 xs ≡ xs ++ drop (length xs) l
+sets-over xs l h = let e = sets-eq xs l 0 (omega arith) in rw zero-add at e
+
 module _ {before : List ℕ} {at size : ℕ} {text after : List ℕ} {next : ℕ} (w : Written before at size text after next) where
   pub written-rest : (more : List ℕ) → sets after next more ≡ sets before at (text ++ more)
   written-rest more = rw (w .bytes, w .place, ← w .full) (sets-append before at text more)
@@ -40,9 +44,7 @@ module _ {before : List ℕ} {at size : ℕ} {text after : List ℕ} {next : ℕ
 
 pub written-over : {before text after : List ℕ} {size next : ℕ} → Written before 0 size text after next → size ≤ length before →
     (after ≡ text ++ drop (length text) before) × (next ≡ length text)
-written-over {before} {text} w h =
-    let e = sets-eq text before 0 (omega arith) in
-    (w .bytes ∙ rw zero-add at e, omega arith)
+written-over {before} {text} w h = (w .bytes ∙ sets-over text before (omega arith), omega arith)
 
 -- HOW MANY BYTES
 pub hexBytes-length : (n v : ℕ) → length (hexBytes n v) ≡ n
