@@ -21,8 +21,8 @@ use Rattle.skew.specs.Paths.{tail, head, SkewSymmetric}
 use Rattle.skew.specs.Search.{State, IsBase, parentBase, Invariant}
 use Rattle.skew.specs.Ascent.{Bridge, Ascent, AddsBase, AscentEnds}
 use Rattle.skew.proofs.Mates.{mate-mate, mate-below}
-use Rattle.skew.proofs.Absorb.{bridge-mirror}
-use Rattle.skew.proofs.Ascent.{ascent-mirror, ascent-at, ascent-absorb, ascent-arc, ascent-same}
+use Rattle.skew.proofs.Mirror.{bridge-mirror, ascent-mirror}
+use Rattle.skew.proofs.Ascent.{ascent-at, ascent-absorb, ascent-arc, ascent-same}
 use Rattle.search.specs.Table.{graphOf}
 use Rattle.search.specs.State.{stateOf, SearchHeld, Clear, marksOf, viasOf}
 use Rattle.search.specs.Steps.{Bridging, labelled, Absorbs, Absorbed, Ascended}
