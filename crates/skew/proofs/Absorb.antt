@@ -10,7 +10,7 @@ use Prim.Native.Nat.{ℕ, _≤_}
 use native.Mathlib.Omega.{arith}
 use Rattle.counting.specs.Lists.{reverseMap}
 use Rattle.skew.specs.Graph.{Graph, mate}
-use Rattle.skew.specs.Paths.{tail, head, RegularPath, MateClosed, Disjoint, SkewSymmetric}
+use Rattle.skew.specs.Paths.{tail, head, RegularPath, Disjoint, SkewSymmetric}
 use Rattle.skew.specs.Segments.{Seg, done, LabelledPath}
 use Rattle.skew.specs.Search.{State, IsBase, InFragment, BaseArc, ReachedEnds, Invariant}
 use Rattle.skew.specs.Ascent.{Bridge, PathInto, PathThrough, InAbsorbed, Labels, Extends, ReachesInto, Ends, SomeAbsorbed, AddsBase}
@@ -20,7 +20,7 @@ use Rattle.skew.proofs.Mates.{mate-mate}
 use Rattle.skew.proofs.Paths.{nodes-cons, mate-arc}
 use Rattle.skew.proofs.RegularPaths.{path-widen, concat, mate-reverse}
 use Rattle.skew.proofs.Segments.{seg-step, spine-nodes, seg-mono, seg-compose}
-use Rattle.skew.proofs.SourcePaths.{later-not-source}
+use Rattle.skew.proofs.Fragments.{fragment-closed, absorbed-closed, fragment-outside, later-not-source}
 use Rattle.skew.proofs.Mirror.{bridge-ends}
 
 first-arcs : (e : ℕ) (p dv dz : List ℕ) → dv ≡ [] → dz ≡ [] → e ∷ reverseMap mate p ≡ dv ++ e ∷ reverseMap mate (p ++ dz)
@@ -51,14 +51,8 @@ module _ (g : Graph) (d : SkewSymmetric g) (st : State) (I : Invariant g st) (C 
   new-in : (u : ℕ) → InFragment st c u → InAbsorbed st C′ u
   new-in u q = rw q (P .here)
 
-  disjoint : Disjoint (InAbsorbed st C) (InFragment st c)
-  disjoint u h q = true-false (rw q at h) (E .out-z)
-
-  absorbed-closed : MateClosed (InAbsorbed st C)
-  absorbed-closed u h = rw (I .base-mate u) h
-
-  fragment-closed : MateClosed (InFragment st c)
-  fragment-closed u q = I .base-mate u ∙ q
+  apart : Disjoint (InFragment st c) (InAbsorbed st C)
+  apart = fragment-outside g st I C c (E .out-z)
 
   outside : (a : ℕ) → C′ (st .base a) ≡ false → (C (st .base a) ≡ false) × ((w : ℕ) → st .base w ≡ c → w ≢ a)
   outside a o = (
@@ -115,7 +109,7 @@ module _ (g : Graph) (d : SkewSymmetric g) (st : State) (I : Invariant g st) (C 
 
   -- and back from z's mate to c's mate
   back : RegularPath g (InFragment st c) (mate z) (mate c) (reverseMap mate cz)
-  back = mate-reverse d fragment-closed (way .1)
+  back = mate-reverse d (fragment-closed g st I c) (way .1)
 
   down-z : Extends g st C′ via′ x z (st .via c ∷ cz)
   down-z = down z refl (E .reached-z)
@@ -246,7 +240,7 @@ module _ (g : Graph) (d : SkewSymmetric g) (st : State) (I : Invariant g st) (C 
           tail-is = H .tail-is;
           path =
               path-widen (λ u. ⊎-elim (old-in u) (new-in u))
-              (concat d absorbed-closed fragment-closed disjoint (H .path) (T .exit-is-arc) (T .exit-tail)
+              (concat d (absorbed-closed g st I C) (fragment-closed g st I c) (λ u h q. apart u q h) (H .path) (T .exit-is-arc) (T .exit-tail)
               (subst (λ (k : ℕ). RegularPath g (InFragment st c) k (mate c) (reverseMap mate cz)) (sym (T .exit-head)) back));
         }
 
@@ -261,8 +255,8 @@ module _ (g : Graph) (d : SkewSymmetric g) (st : State) (I : Invariant g st) (C 
     onward-other : H .entry ≢ st .via c
     onward-other k =
         let y = head g (H .entry) in
-        disjoint y (H .path .within y (nodes-cons g y (H .inside)))
-        (ap (λ (n : ℕ). st .base (head g n)) k ∙ ap (st .base) (arc-c .head-is) ∙ base-c .self)
+        apart y (ap (λ (n : ℕ). st .base (head g n)) k ∙ ap (st .base) (arc-c .head-is) ∙ base-c .self)
+        (H .path .within y (nodes-cons g y (H .inside)))
 
   from-v : (u : ℕ) → ReachesInto g st C via v u → ReachesInto g st C′ via′ v u
   from-v u k =
@@ -281,7 +275,7 @@ module _ (g : Graph) (d : SkewSymmetric g) (st : State) (I : Invariant g st) (C 
           tail-is = refl;
           path =
               path-widen (λ w. ⊎-elim (new-in w) (old-in w))
-              (concat d fragment-closed absorbed-closed (λ w a b. disjoint w b a) (entered z refl (E .reached-z)) (H .is-arc) (H .tail-is)
+              (concat d (fragment-closed g st I c) (absorbed-closed g st I C) apart (entered z refl (E .reached-z)) (H .is-arc) (H .tail-is)
               (H .path));
         },
         from-x u (H .entry ∷ H .inside) (k .1),

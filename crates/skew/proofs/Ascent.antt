@@ -19,9 +19,9 @@ use Rattle.counting.proofs.Booleans.{by-test}
 use Rattle.skew.proofs.Mates.{mate-mate, mate-other}
 use Rattle.skew.proofs.Paths.{arc-ends, nodes-empty, mate-arc}
 use Rattle.skew.proofs.RegularPaths.{path-empty, concat, extend}
-use Rattle.skew.proofs.SourcePaths.{later-not-source}
+use Rattle.skew.proofs.Fragments.{fragment-closed, absorbed-closed, fragment-outside, plain-base, later-not-source}
 use Rattle.skew.proofs.Absorb.{absorb-first, absorb-next}
-use Rattle.skew.proofs.Meet.{meet-disjoint, at-base, meet}
+use Rattle.skew.proofs.Meet.{meet}
 
 module _ (g : Graph) (d : SkewSymmetric g) (st : State) (I : Invariant g st) where
   module _ (C : ℕ → Bool) (via : ℕ → ℕ) (e v₀ z₀ v z : ℕ) (B : Bridge g st e v₀ z₀) where
@@ -83,15 +83,16 @@ module _ (g : Graph) (d : SkewSymmetric g) (st : State) (I : Invariant g st) whe
     b = st .base v
 
     -- an arc from b to its mate, where the two are a plain fragment
-    none-round : (A : NoneAbsorbed g st C via e v₀ z₀ v z) → st .reached (mate b) ≡ false → RegularPath g (InUnion st C b) b (mate b) (e ∷ [])
+    none-round : NoneAbsorbed g st C via e v₀ z₀ v z → st .reached (mate b) ≡ false → RegularPath g (InUnion st C b) b (mate b) (e ∷ [])
     none-round A t =
         let E = none-ends C via e v₀ z₀ v z B A in
-        let at = at-base g d st I C via via′ e v₀ z₀ v z [] [] B E same new old in
-        let self = I .base-base v (E .reached-v) .self in
-        let to : head g e ≡ mate b = B .head-is ∙ ap mate (sym (A .z-is) ∙ at z t (E .reached-z) (sym same)) in
+        let r = I .base-base v (E .reached-v) in
+        let vb = plain-base g st I b v r t (E .reached-v) refl in
+        let zb = plain-base g st I b z r t (E .reached-z) (sym same) in
+        let to : head g e ≡ mate b = B .head-is ∙ ap mate (sym (A .z-is) ∙ zb) in
         subst (λ (k : ℕ). RegularPath g (InUnion st C b) b k (e ∷ [])) to
-        (extend (path-empty b (inl self)) (B .is-arc) (B .tail-is ∙ sym (A .v-is) ∙ at v t (E .reached-v) refl)
-        (inl (ap (st .base) to ∙ I .base-mate b ∙ self)) (λ m. mate-other b (sym to ∙ nodes-empty g b (head g e) m)) (λ m. m))
+        (extend (path-empty b (inl (r .self))) (B .is-arc) (B .tail-is ∙ sym (A .v-is) ∙ vb)
+        (inl (ap (st .base) to ∙ I .base-mate b ∙ r .self)) (λ m. mate-other b (sym to ∙ nodes-empty g b (head g e) m)) (λ m. m))
 
     -- the path through the absorbed fragments, and its exit to b's mate
     some-round : (A : SomeAbsorbed g st C via e v₀ z₀ v z) → st .reached (mate b) ≡ false →
@@ -101,24 +102,24 @@ module _ (g : Graph) (d : SkewSymmetric g) (st : State) (I : Invariant g st) whe
         let E = A .ends in
         let T = A .through in
         let H = T .into in
-        let at = at-base g d st I C via via′ e v₀ z₀ v z (A .dv) (A .dz) B E same new old in
-        let apart = meet-disjoint g d st I C via via′ e v₀ z₀ v z (A .dv) (A .dz) B E same new old in
-        let self = I .base-base v (E .reached-v) .self in
+        let r = I .base-base v (E .reached-v) in
+        let self = r .self in
+        let apart = fragment-outside g st I C b (E .out-v) in
         let y = head g (T .exit) in
-        let to : y ≡ mate b = T .exit-head ∙ ap mate (at z t (E .reached-z) (sym same)) in
+        let to : y ≡ mate b = T .exit-head ∙ ap mate (plain-base g st I b z r t (E .reached-z) (sym same)) in
         let inb : st .base y ≡ b = ap (st .base) to ∙ I .base-mate b ∙ self in
         let P : RegularPath g (InUnion st C b) b (T .last) (H .entry ∷ H .inside) =
-        concat d (λ w k. I .base-mate w ∙ k) (λ w k. rw (I .base-mate w) k) apart (path-empty b self) (H .is-arc)
-        (H .tail-is ∙ at v t (E .reached-v) refl) (H .path) in
+        concat d (fragment-closed g st I b) (absorbed-closed g st I C) apart (path-empty b self) (H .is-arc)
+        (H .tail-is ∙ plain-base g st I b v r t (E .reached-v) refl) (H .path) in
         let fresh : In y (nodesAlong g b (H .entry ∷ H .inside)) → ⊥ =
         ⊎-elim (λ k. mate-other b (sym to ∙ k)) (λ m. apart y inb (H .path .within y m)) in
         let free : In (mate (T .exit)) (H .entry ∷ H .inside) → ⊥ =
         ⊎-elim (λ k. T .not-mates (sym k))
         (λ m.
         let x = tail g (mate (T .exit)) in
-        let r = arc-ends g (head g (H .entry)) (T .last) (H .inside) (H .path .joins) (mate (T .exit)) m in
+        let i = arc-ends g (head g (H .entry)) (T .last) (H .inside) (H .path .joins) (mate (T .exit)) m in
         let f : x ≡ b = mate-arc g d (T .exit) (T .exit-is-arc) .1 ∙ ap mate to ∙ mate-mate b in
-        apart x (ap (st .base) f ∙ self) (H .path .within x (r .1))) in
+        apart x (ap (st .base) f ∙ self) (H .path .within x (i .1))) in
         subst (λ (l : List ℕ). RegularPath g (InUnion st C b) b (mate b) l) (A .arcs)
         (subst (λ (k : ℕ). RegularPath g (InUnion st C b) b k ((H .entry ∷ H .inside) ++ T .exit ∷ [])) to
         (extend P (T .exit-is-arc) (T .exit-tail) (inl inb) fresh free))

@@ -7,22 +7,20 @@ use mathlib.Core.Bool.{Bool, true, false}
 use mathlib.Core.List.{List}
 use Prim.Native.Nat.{ℕ, _+_, _-_, _≤_, _<_}
 use native.Mathlib.Omega.{arith}
-use lib.Dec.{eqb}
 use lib.ListN.{length}
-use borrow.Author.Tests.{eqb-true, eq-eqb}
 use Rattle.skew.specs.Graph.{Graph, mate, nodes, arcAt, isReachable, hasPath, classAt, largestOf, mateClass, entriesInto, isBarrier, partNumber, classOf, canonical}
 use Rattle.skew.specs.Paths.{tail, head, WellFormed}
 use Rattle.skew.specs.Search.{State, IsBase, BaseArc, Invariant}
 use Rattle.skew.specs.Steps.{SettledKind, within, enters, leaves, Closed}
 use Rattle.skew.specs.Forest.{BothReached, root, rootOf, IsRoot}
-use Rattle.skew.specs.Barrier.{classesFit, isEntry, NodeClass, in-X, in-A, in-A′, in-M}
-use Rattle.counting.proofs.Booleans.{and-two, and-both, pick-true, by-test, true-false}
+use Rattle.skew.specs.Barrier.{classesFit, isEntry, EntryArc, NodeClass, in-X, in-A, in-A′, in-M}
+use Rattle.counting.proofs.Booleans.{pick-true, by-test, true-false}
 use Rattle.skew.proofs.Mates.{mate-mate, mate-below}
 use Rattle.skew.proofs.Paths.{mate-arc, tail-node}
 use Rattle.skew.proofs.Settled.{settled-kind}
 use Rattle.skew.proofs.Existence.{closed-exists}
 use Rattle.skew.proofs.Exact.{reached-reachable, reachable-is}
-use Rattle.skew.proofs.Classes.{fit-X-X, fit-X-A, fit-X-A′, fit-A-X, sole-entry, largest-is, barrier-test, X-mate-class, canonical-class, canonical-length, node-class}
+use Rattle.skew.proofs.Classes.{fit-X-X, fit-X-A, fit-X-A′, fit-A-X, sole-entry, largest-is, barrier-test, X-mate-class, entry-test, test-entry, canonical-class, canonical-length, node-class}
 use Rattle.skew.proofs.Forest.{both-mate, bud-arc, root-stop, root-is, arc-root}
 use Rattle.skew.proofs.Canonical.{both-inX, part-number-same, part-number-root, part-number-find}
 
@@ -165,18 +163,22 @@ module _ (g : Graph) (wf : WellFormed g) (st : State) (I : Invariant g st) (K : 
     root-class =
         class-of r (R .base .both) ∙ ap (λ (z : ℕ). 3 + z) (part-number-same g wf st I K shut r w (R .base .both) W root-own)
 
-    is-entry : isEntry cs (3 + partNumber g w) (arcAt g (st .via r)) ≡ true
-    is-entry =
+    root-entry : EntryArc g cs (st .via r) (3 + partNumber g w)
+    root-entry =
         let e = st .via r in
-        and-both _ _ (eq-eqb _ _ (at-tail e (arc .is-arc) ∙ one-class (tail g e) (arc .tail-reached) (R .outside)))
-        (eq-eqb _ _ (at-head e (arc .is-arc) ∙ ap (classOf g) (arc .head-is) ∙ root-class))
+        record {
+          is-arc = arc .is-arc;
+          is-X = omega arith;
+          from-A = at-tail e (arc .is-arc) ∙ one-class (tail g e) (arc .tail-reached) (R .outside);
+          into-X = at-head e (arc .is-arc) ∙ ap (classOf g) (arc .head-is) ∙ root-class;
+        }
 
     only-entry : (j : ℕ) → j < length (g .arcs) → isEntry cs (3 + partNumber g w) (arcAt g j) ≡ true → j ≡ st .via r
     unfolding r
     only-entry j h e =
-        let t = and-two (eqb (classAt cs (tail g j)) 1) (eqb (classAt cs (head g j)) (3 + partNumber g w)) e in
-        let o = class-one (tail g j) (sym (at-tail j h) ∙ eqb-true _ _ (t .0)) in
-        let q : classOf g (head g j) ≡ 3 + partNumber g w = sym (at-head j h) ∙ eqb-true _ _ (t .1) in
+        let E = test-entry g cs j (3 + partNumber g w) h (omega arith) e in
+        let o = class-one (tail g j) (sym (at-tail j h) ∙ E .from-A) in
+        let q : classOf g (head g j) ≡ 3 + partNumber g w = sym (at-head j h) ∙ E .into-X in
         let Y = class-three (head g j) (omega (arith, q)) in
         let n : partNumber g (head g j) ≡ partNumber g w = omega (arith, q, class-of (head g j) Y) in
         let m = from-A j h (o .0) (o .1) (Y .mate-reached) in
@@ -198,7 +200,8 @@ module _ (g : Graph) (wf : WellFormed g) (st : State) (I : Invariant g st) (K : 
       of-part : (w : ℕ) → BothReached st w → 3 + partNumber g w ≡ c → entriesInto cs c (g .arcs) ≡ 1
       of-part w B q =
           subst (λ (z : ℕ). entriesInto cs z (g .arcs) ≡ 1) q
-          (sole-entry cs (3 + partNumber g w) (g .arcs) (st .via (r w B)) (arc w B .is-arc) (is-entry w B) (only-entry w B))
+          (sole-entry cs (3 + partNumber g w) (g .arcs) (st .via (r w B)) (arc w B .is-arc)
+          (entry-test g cs (st .via (r w B)) (3 + partNumber g w) (root-entry w B)) (only-entry w B))
 
   pub canonical-barrier : isBarrier g (canonical g) ≡ true
   canonical-barrier =

@@ -1,5 +1,6 @@
 -- Every well-formed graph has a closed state (EXISTS): from the start, steps are taken while some arc asks for one; each lowers the measure.
---   closed-exists      such a state, with the invariant
+--   ClosedState g      a closed state with the invariant
+--   closed-exists      there is one
 use mathlib.Core.Path.{_≡_, refl, sym, ap, _∙_}
 use mathlib.Core.Logic.{_⊎_, inl, inr, _≢_, ⊎-elim}
 use mathlib.Core.Bool.{Bool, true, false, _&&_, _||_, not}

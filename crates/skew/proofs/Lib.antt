@@ -6,6 +6,7 @@
 --   Segments           the paths that labels give
 --   Reachable          reachable exactly if some regular path ends there
 --   AlongPaths         a regular path node by node
+--   Fragments          fragments of a state with the invariant
 --   SourcePaths        a regular path from the source to each reached node
 --   TreeStep           the tree step keeps the invariant
 --   BudStep            the bud step keeps the invariant
@@ -35,6 +36,7 @@ pub mod RegularPaths
 pub mod Segments
 pub mod Reachable
 pub mod AlongPaths
+pub mod Fragments
 pub mod SourcePaths
 pub mod TreeStep
 pub mod BudStep

@@ -37,7 +37,7 @@ mate-below v n e h = omega (arith, mate-is v)
 pub mate-inj : (v w : ℕ) → mate v ≡ mate w → v ≡ w
 mate-inj v w e = omega (arith, mate-is v, mate-is w)
 
-pub mate-suc-suc : (v : ℕ) → mate (suc (suc v)) ≡ suc (suc (mate v))
+mate-suc-suc : (v : ℕ) → mate (suc (suc v)) ≡ suc (suc (mate v))
 mate-suc-suc v = omega (arith, mate-is v, mate-is (suc (suc v)))
 
 -- A NODE'S PAIR

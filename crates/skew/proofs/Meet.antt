@@ -9,15 +9,16 @@ use lib.Dec.{eqb}
 use borrow.Author.Tests.{eq-eqb}
 use Rattle.counting.specs.Lists.{reverseMap}
 use Rattle.skew.specs.Graph.{Graph, mate}
-use Rattle.skew.specs.Paths.{RegularPath, Disjoint, SkewSymmetric}
+use Rattle.skew.specs.Paths.{RegularPath, SkewSymmetric}
 use Rattle.skew.specs.Segments.{Seg, done, LabelledPath}
 use Rattle.skew.specs.Search.{State, IsBase, InFragment, ReachedEnds, Invariant}
 use Rattle.skew.specs.Steps.{InUnion, reachedAfter, Absorbable}
 use Rattle.skew.specs.Ascent.{Bridge, InAbsorbed, Labels, ReachesInto, Ends}
-use Rattle.counting.proofs.Booleans.{or-right, by-test, true-false}
+use Rattle.counting.proofs.Booleans.{or-right, by-test}
 use Rattle.skew.proofs.Mates.{mate-mate, mate-other}
 use Rattle.skew.proofs.RegularPaths.{concat}
 use Rattle.skew.proofs.Segments.{seg-step, seg-mono}
+use Rattle.skew.proofs.Fragments.{fragment-closed, absorbed-closed, fragment-outside, plain-base}
 use Rattle.skew.proofs.Mirror.{bridge-ends}
 
 module _ (g : Graph) (d : SkewSymmetric g) (st : State) (I : Invariant g st) (C : ℕ → Bool) (via via′ : ℕ → ℕ) (e v₀ z₀ v z : ℕ)
@@ -32,9 +33,6 @@ module _ (g : Graph) (d : SkewSymmetric g) (st : State) (I : Invariant g st) (C 
 
   out-b : C (st .base b) ≡ false
   out-b = rw (base-b .self) (E .out-v)
-
-  pub meet-disjoint : Disjoint (InFragment st b) (InAbsorbed st C)
-  meet-disjoint u q h = true-false (rw q at h) (E .out-v)
 
   -- the labels of the new state
   abbrev labels : Labels st C via
@@ -58,23 +56,18 @@ module _ (g : Graph) (d : SkewSymmetric g) (st : State) (I : Invariant g st) (C 
       let H = k .0 in
       let r = subst (λ (y : ℕ). LabelledPath g (InFragment st y) (st .reached) (st .via) y w) q (I .path w l) in (
         r .0 ++ H .entry ∷ H .inside,
-        concat d (λ y m. I .base-mate y ∙ m) (λ y m. rw (I .base-mate y) m) meet-disjoint (r .1) (H .is-arc) (H .tail-is) (H .path),
+        concat d (fragment-closed g st I b) (absorbed-closed g st I C) (fragment-outside g st I C b (E .out-v)) (r .1) (H .is-arc)
+            (H .tail-is) (H .path),
         k .1 labels b (r .0) out-b (seg-mono kept (r .2)),
       )
 
-  -- in a plain fragment both ends are the base
-  pub at-base : (w : ℕ) → st .reached (mate b) ≡ false → st .reached w ≡ true → st .base w ≡ b → w ≡ b
-  at-base w t l q =
-      ⊎-elim (λ m. true-false m t) (λ m. ⊎-elim (λ k. k) (λ k. true-false (rw k at l) t) (m .0 w q))
-      (I .whole b (mate b) base-b (I .base-mate b ∙ base-b .self))
-
-  -- the labels lead round to the base's mate
+  -- in a plain fragment both ends are the base, and the labels lead round to its mate
   round : st .reached (mate b) ≡ false → Seg g (reachedAfter st C b) via′ b (mate b) (dv ++ e ∷ reverseMap mate dz)
   round t =
       let at : (w : ℕ) → w ≡ b → Seg g (reachedAfter st C b) via′ b w [] =
       λ w q. subst (λ (k : ℕ). Seg g (reachedAfter st C b) via′ b k []) (sym q) done in
-      let sv = E .seg-v labels b [] out-b (at v (at-base v t (E .reached-v) refl)) in
-      let sz = E .seg-z labels b [] out-b (at z (at-base z t (E .reached-z) (sym same))) in
+      let sv = E .seg-v labels b [] out-b (at v (plain-base g st I b v base-b t (E .reached-v) refl)) in
+      let sz = E .seg-z labels b [] out-b (at z (plain-base g st I b z base-b t (E .reached-z) (sym same))) in
       let lm : reachedAfter st C b (mate b) ≡ true =
       or-right (st .reached (mate b)) _ (or-right (C (st .base (mate b))) (eqb (mate b) (mate b)) (eq-eqb (mate b) (mate b) refl)) in
       seg-step b (mate b) e v₀ z₀ dv dz lm (mate-other b) (via-new t) (B .is-arc) (B .tail-is) (ap mate (B .head-is) ∙ mate-mate z₀) sv

@@ -1,7 +1,6 @@
 -- Each reached node lies on a regular path from the source, which goes from fragment to fragment over base arcs.
---   later-not-source      a base no earlier than another is not the source
 --   source-path           a reached node's path, through fragments no later than its own
-use mathlib.Core.Path.{_≡_, refl, sym, ap, subst, _∙_}
+use mathlib.Core.Path.{_≡_, refl, ap, subst}
 use mathlib.Core.Logic.{_⊎_, inl, inr, _≢_, ⊎-elim}
 use mathlib.Core.Bool.{true}
 use mathlib.Core.List.{List, _∷_, _++_}
@@ -12,13 +11,7 @@ use Rattle.skew.specs.Paths.{tail, head, RegularPath, SkewSymmetric}
 use Rattle.skew.specs.Search.{State, InFragment, Invariant}
 use Rattle.counting.proofs.Booleans.{same-or}
 use Rattle.skew.proofs.RegularPaths.{path-widen, concat}
-
-module _ (g : Graph) (st : State) (I : Invariant g st) where
-  pub later-not-source : (v c : ℕ) → st .reached v ≡ true → st .base v ≢ c → st .birth (st .base v) ≤ st .birth c → c ≢ g .source
-  later-not-source v c l n h q =
-      let a = I .base-arc (st .base v) (I .base-base v l) (λ k. n (k ∙ sym q)) in
-      let x = tail g (st .via (st .base v)) in
-      omega (arith, a .base-earlier, I .source-first (st .base x) (I .base-base x (a .tail-reached) .reached), ap (st .birth) q)
+use Rattle.skew.proofs.Fragments.{fragment-closed}
 
 module _ (g : Graph) (d : SkewSymmetric g) (st : State) (I : Invariant g st) where
   abbrev UpTo : ℕ → ℕ → Type 0
@@ -54,7 +47,8 @@ module _ (g : Graph) (d : SkewSymmetric g) (st : State) (I : Invariant g st) whe
           let Q : RegularPath g (InFragment st b) (head g (st .via b)) u (q .0) = rw (a .head-is) (q .1) in (
             r .0 ++ st .via b ∷ q .0,
             path-widen (λ y. ⊎-elim (λ h. omega arith) (up-to y))
-                (concat d (λ y h. rw (I .base-mate y) h) (λ y e. I .base-mate y ∙ e) (λ y h e. omega (arith, ap (st .birth) e)) P (a .is-arc) refl Q),
+                (concat d (λ y h. rw (I .base-mate y) h) (fragment-closed g st I b) (λ y h e. omega (arith, ap (st .birth) e)) P
+                (a .is-arc) refl Q),
           )
 
   pub source-path : (u : ℕ) → st .reached u ≡ true → SourcePath u

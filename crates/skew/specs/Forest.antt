@@ -3,7 +3,7 @@
 --   BothReached st v        v and its mate are reached: v lies in a bud
 --   BudBase st b            the base of a bud
 --   entryTail g st b        the tail of the base arc
---   root g st b             the base of the bud at the root of b's tree
+--   rootFrom, root g st b   the base of the bud at the root of b's tree
 --   rootOf g st v           the same for a node
 --   IsRoot g st b           the tail of the base arc lies in no bud
 use mathlib.Core.Path.{_≡_}

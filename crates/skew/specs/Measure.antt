@@ -1,6 +1,6 @@
 -- A number that every step of a search lowers.
---   weight st u      a node's share: 2 where it and its mate are new, falling as they are reached and as bases are absorbed
---   total g st       the sum over all nodes
+--   weigh, weight st u      a node's share: 2 where it and its mate are new, falling as they are reached and as bases are absorbed
+--   total g st              the sum over all nodes
 use mathlib.Core.Bool.{Bool, true, false}
 use Prim.Native.Nat.{ℕ}
 use lib.Dec.{eqb}
