@@ -14,7 +14,6 @@ use lib.ListN.{length}
 use Rattle.counting.specs.Lists.{In, Within, Distinct}
 use Rattle.skew.specs.Graph.{Graph, mate, nodesAlong, isReachable}
 use Rattle.skew.specs.Paths.{tail, head, Joins, RegularPath, WellFormed}
-use Rattle.skew.specs.Steps.{within}
 use Rattle.counting.proofs.Booleans.{same-or}
 use Rattle.counting.proofs.Membership.{in-left}
 use Rattle.skew.proofs.Mates.{mate-mate}

@@ -11,7 +11,6 @@ use lib.Dec.{eqb}
 use lib.ListN.{length}
 use borrow.Author.Tests.{eqb-true}
 use Rattle.counting.specs.Lists.{In}
-use Rattle.counting.specs.Pairs.{ends}
 use Rattle.skew.specs.Graph.{Graph, mate, endOf, isRegular, isWanted, classAt, isBarrier}
 use Rattle.skew.specs.Paths.{tail, head, WellFormed}
 use Rattle.skew.specs.Barrier.{Barrier, EntryArc}

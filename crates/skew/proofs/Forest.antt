@@ -15,7 +15,7 @@ use lib.ListN.{length}
 use Rattle.skew.specs.Graph.{Graph, mate}
 use Rattle.skew.specs.Paths.{tail, head, SkewSymmetric}
 use Rattle.skew.specs.Search.{State, BaseArc, Invariant}
-use Rattle.skew.specs.Steps.{enters, leaves, Closed}
+use Rattle.skew.specs.Steps.{Closed}
 use Rattle.skew.specs.Forest.{BothReached, BudBase, entryTail, rootFrom, root, rootOf, IsRoot}
 use Rattle.counting.proofs.Booleans.{by-test, true-false}
 use Rattle.skew.proofs.Mates.{mate-mate}

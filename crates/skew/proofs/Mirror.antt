@@ -8,7 +8,6 @@ use mathlib.Core.Bool.{Bool}
 use mathlib.Core.List.{List, [], _∷_, _++_, append-assoc}
 use Prim.Native.Nat.{ℕ}
 use Rattle.counting.specs.Lists.{reverseMap}
-use Rattle.counting.specs.Pairs.{ends}
 use Rattle.skew.specs.Graph.{Graph, mate}
 use Rattle.skew.specs.Paths.{head, RegularPath, MateClosed, SkewSymmetric}
 use Rattle.skew.specs.Search.{State, ReachedEnds, Invariant}

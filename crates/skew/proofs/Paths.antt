@@ -21,7 +21,6 @@ use Rattle.counting.specs.Tests.{noneTwice}
 use Rattle.counting.specs.Lists.{In, Within, reverseMap}
 use Rattle.skew.specs.Graph.{Graph, mate, nodes, nodesAlong, isJoined, noMates, endOf, isRegular}
 use Rattle.skew.specs.Paths.{tail, head, Joins, RegularPath, SkewSymmetric, WellFormed}
-use Rattle.skew.specs.Steps.{within}
 use Rattle.counting.proofs.Booleans.{and-left, and-right, and-both}
 use Rattle.counting.proofs.NoRepeats.{none-twice-distinct, distinct-none-twice}
 use Rattle.skew.proofs.Mates.{mate-mate, mate-below, arcs-mates}

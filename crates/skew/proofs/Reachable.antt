@@ -15,7 +15,6 @@ use Rattle.counting.specs.Tests.{any, among, below}
 use Rattle.counting.specs.Lists.{In, Distinct}
 use Rattle.skew.specs.Graph.{Graph, mate, nodes, nodesAlong, endOf, isRegular, reachesFrom, isReachable}
 use Rattle.skew.specs.Paths.{tail, head, Joins, Unmated, WellFormed}
-use Rattle.skew.specs.Steps.{within}
 use Rattle.skew.specs.Promise.{SomePath, ReachesByPathsIn}
 use Rattle.counting.proofs.Booleans.{and-four, and-both, or-right, or-cases}
 use Rattle.counting.proofs.Membership.{any-some, some-any, not-among-out, out-not-among}

@@ -13,7 +13,6 @@ use lib.ListN.{length}
 use Rattle.counting.specs.Lists.{In, Apart, reverseMap}
 use Rattle.skew.specs.Graph.{Graph, mate, nodesAlong}
 use Rattle.skew.specs.Paths.{tail, head, Joins, Unmated, RegularPath, MateClosed, Disjoint, SkewSymmetric}
-use Rattle.skew.specs.Steps.{within}
 use Rattle.counting.proofs.Membership.{in-append}
 use Rattle.counting.proofs.NoRepeats.{distinct-append}
 use Rattle.counting.proofs.Reversal.{in-reverse, distinct-reverse}

@@ -23,7 +23,7 @@ use Rattle.skew.proofs.Paths.{mate-arc}
 module _ (g : Graph) (d : SkewSymmetric g) (st : State) (I : Invariant g st) where
   pub settled-or : (i : ℕ) → ReachedEnds g st i → Settled g st i ⊎ Unsettled g st i (tail g i) (mate (head g i))
   settled-or i R =
-      ⊎-elim (λ q. by-test (st .reached (head g i)) (λ t. inl (inl (q, t))) (λ t. inr (within q t)))
+      ⊎-elim (λ q. by-test (st .reached (head g i)) (λ t. inl (inl (q, t))) (λ t. inr (in-one q t)))
       (λ n.
       ⊎-elim (λ q. inl (inr (inl q)))
       (λ p. ⊎-elim (λ q. inl (inr (inr q))) (λ q. inr (between n p q)) (same-or (mate i) (st .via (st .base (tail g i)))))
@@ -33,8 +33,8 @@ module _ (g : Graph) (d : SkewSymmetric g) (st : State) (I : Invariant g st) whe
       m : st .base (mate (head g i)) ≡ st .base (head g i)
       m = I .base-mate (head g i)
 
-      within : st .base (tail g i) ≡ st .base (head g i) → st .reached (head g i) ≡ false → Unsettled g st i (tail g i) (mate (head g i))
-      within q t =
+      in-one : st .base (tail g i) ≡ st .base (head g i) → st .reached (head g i) ≡ false → Unsettled g st i (tail g i) (mate (head g i))
+      in-one q t =
           record {
             not-base-arcs = λ n. absurd (n (q ∙ sym m));
             mate-new = λ e.
@@ -157,7 +157,7 @@ module _ (g : Graph) (d : SkewSymmetric g) (st : State) (I : Invariant g st) whe
         record {
           tail-reached = N .reached-still x (S .tail-reached);
           mate-reached = N .reached-still (mate y) (S .mate-reached);
-          settled = ⊎-elim (λ k. inl (same-base x y (k .0), N .reached-still y (k .1))) (⊎-elim enters leaves) (S .settled);
+          settled = ⊎-elim (λ k. inl (same-base x y (k .0), N .reached-still y (k .1))) (⊎-elim by-base by-mate) (S .settled);
         }
       where
         x : ℕ
@@ -166,16 +166,16 @@ module _ (g : Graph) (d : SkewSymmetric g) (st : State) (I : Invariant g st) whe
         y : ℕ
         y = head g j
 
-        enters : j ≡ st .via (st .base y) → Settled g new j
-        enters q =
+        by-base : j ≡ st .via (st .base y) → Settled g new j
+        by-base q =
             by-test (C (st .base y))
             (λ t.
             let a : parentBase g st (st .base y) ≡ st .base x = ap (λ (z : ℕ). st .base (tail g z)) (sym q) in
             inl (bud-base x (rw a at (ups (st .base y) t)) ∙ sym (N .base-in y t), N .reached-in y t))
             (λ t. inr (inl (q ∙ sym (via-same (st .base y) (head-base j S)) ∙ ap (new .via) (sym (N .base-out y t)))))
 
-        leaves : mate j ≡ st .via (st .base x) → Settled g new j
-        leaves q =
+        by-mate : mate j ≡ st .via (st .base x) → Settled g new j
+        by-mate q =
             by-test (C (st .base x))
             (λ t.
             let a : parentBase g st (st .base x) ≡ st .base y =
