@@ -2,9 +2,9 @@
 --   looked-none, looked-fewer      at no arc yet; at fewer arcs
 --   looked-more                    at one arc more, after its step
 --   looked-closed                  at every arc of a reached node: the state is closed
---   scan-start, scan-switch, scan-past, scan-skip, scan-look, scan-done, scan-closed      the same, node by node
-use mathlib.Core.Path.{_≡_, sym, ap, subst, _∙_}
-use mathlib.Core.Logic.{_⊎_, inl, inr, _≢_, ⊎-elim}
+--   scan-start, scan-switch, scan-past, scan-look, scan-done, scan-closed      the same, node by node
+use mathlib.Core.Path.{_≡_, sym, subst}
+use mathlib.Core.Logic.{_⊎_, inl, inr, ⊎-elim}
 use mathlib.Core.Bool.{Bool, true}
 use Prim.Native.Nat.{ℕ, _+_, _≤_, _<_}
 use native.Mathlib.Omega.{arith}
@@ -101,10 +101,6 @@ module _ (g : Graph) (wf : WellFormed g) where
       (λ i h. ⊎-elim (λ t. inl t)
       (λ t.
       by-test (ltb i a) (λ l. inr (t .0, ltb-true i a l)) (λ l. absurd (none i (ltb-false i a l) (t .1) (t .0)))))
-
-  pub scan-skip : (st : State) (T : ℕ → Bool) (x a : ℕ) → tail g a ≢ x → Scanning g st T x a → Scanning g st T x (a + 1)
-  scan-skip st T x a n =
-      scan-past st T x a (a + 1) (λ j h l e. let q : j ≡ a = omega arith in n (ap (tail g) (sym q) ∙ e))
 
   pub scan-look : (st new : State) → Invariant g new → (T : ℕ → Bool) (x a : ℕ) → st .reached x ≡ true → Scanning g st T x a →
       ((u : ℕ) → st .reached u ≡ true → new .reached u ≡ true) →
