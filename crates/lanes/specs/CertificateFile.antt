@@ -1,0 +1,67 @@
+-- Certificates: paths and barriers (document 01, "The barrier", "Frames" and "Questions put to a call"; the definitions are document 03's).
+-- Assumes nothing: these are definitions.
+--   isPathFile                        the header is a path's
+--   pathArcs, pathFault               a path's arc numbers, and its questions 2 to 9
+--   barrierClasses, barrierFault      a barrier's classes, and its questions 2 to 9
+--   certFault, certHolds              of either kind: the first question answered no, and past the questions whether it holds
+--   pathText, barrierText             a path and a barrier as they are written
+use mathlib.Core.Bool.{Bool, true, _&&_}
+use mathlib.Core.List.{List, [], _∷_, _++_}
+use Prim.Native.Nat.{ℕ, suc}
+use lib.Dec.{ltb, leb, eqb}
+use lib.ListN.{length}
+use Rattle.counting.specs.Tests.{pick, all}
+use Rattle.counting.specs.Pairs.{Pair}
+use Rattle.frames.specs.Frames.{orElse, unless, hexAt, firstLine, bodyLines, shapeFault, pathForm, barrierForm, pairsIn, numbersIn, frame2, frame6, frameOf4}
+use Rattle.skew.specs.Graph.{Graph, nodes, isWanted, isBarrier}
+
+abbrev pub isPathFile : (file : List ℕ) → Bool
+isPathFile f = eqb (hexAt 0 2 (firstLine f)) 33
+
+-- A PATH
+abbrev pub pathArcs : (file : List ℕ) → List ℕ
+pathArcs f = numbersIn (bodyLines f)
+
+abbrev pub pathFault : Graph → (file : List ℕ) → ℕ
+pathFault g f =
+    orElse (shapeFault pathForm f true)
+    (orElse (unless (leb (length (bodyLines f)) 255) 8) (unless (all (λ (i : ℕ). ltb i (length (g .arcs))) (pathArcs f)) 9))
+
+-- A BARRIER: line i names node i
+unfoldable pub namesInOrder : (node : ℕ) → List Pair → Bool
+namesInOrder i [] = true
+namesInOrder i (x ∷ xs) = eqb (x .first) i && leb (x .second) 130 && namesInOrder (suc i) xs
+
+unfoldable pub secondsOf : List Pair → List ℕ
+secondsOf [] = []
+secondsOf (x ∷ xs) = x .second ∷ secondsOf xs
+
+abbrev pub barrierClasses : (file : List ℕ) → List ℕ
+barrierClasses f = secondsOf (pairsIn 50 (bodyLines f))
+
+abbrev pub barrierFault : Graph → (file : List ℕ) → ℕ
+barrierFault g f =
+    orElse (shapeFault barrierForm f true)
+    (orElse (unless (eqb (length (bodyLines f)) (nodes g)) 8) (unless (namesInOrder 0 (pairsIn 50 (bodyLines f))) 9))
+
+-- EITHER
+abbrev pub certFault : Graph → (file : List ℕ) → ℕ
+certFault g f = pick (isPathFile f) (pathFault g f) (barrierFault g f)
+
+abbrev pub certHolds : Graph → (file : List ℕ) → Bool
+certHolds g f = pick (isPathFile f) (isWanted g (pathArcs f)) (isBarrier g (barrierClasses f))
+
+-- WRITTEN
+unfoldable pub pathLines : (arcs : List ℕ) → List ℕ
+pathLines [] = []
+pathLines (i ∷ is) = frameOf4 34 i ++ pathLines is
+
+abbrev pub pathText : (arcs : List ℕ) → List ℕ
+pathText is = frame2 33 ++ pathLines is ++ frameOf4 47 (length is)
+
+unfoldable pub classLines : (node : ℕ) → (classes : List ℕ) → List ℕ
+classLines v [] = []
+classLines v (c ∷ cs) = frame6 50 v c ++ classLines (suc v) cs
+
+abbrev pub barrierText : (classes : List ℕ) → List ℕ
+barrierText cs = frame2 49 ++ classLines 0 cs ++ frameOf4 63 (length cs)

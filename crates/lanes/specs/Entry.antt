@@ -1,0 +1,113 @@
+-- What each call answers and leaves: its result, the buffer and the tally (document 01, "Questions put to a call"; the definitions are document
+-- 03's, with the verdict's lines). Assumes nothing: these are definitions.
+--   roomFault, answerFault, sheetFault, checkFault    the first question answered no, by call
+--   over new old                                      a buffer with new bytes at the front, the others as they were
+--   told                                              a call's result: its refusal, or 0 and the answer's size
+--   raised, counted                                   one more, where a count is not at its largest; the counts named
+--   GraphOwes, graphTally                             a graph's answer: some path, or the canonical barrier
+--   checkPost, verdictLine                            the check's answer, and the line that says it
+--   PlanOwes                                          a stock's plan: which largest one is left free
+--   sheetPost, sheetLeaves, stockTally                a stock's standing sheet
+--   refusalLine                                       the line that says a refusal
+use mathlib.Core.Path.{_≡_}
+use mathlib.Core.Bool.{Bool, true, false, _&&_, not}
+use mathlib.Core.List.{List, _++_}
+use Prim.Native.Nat.{ℕ, suc, _+_}
+use lib.Dec.{ltb, leb, eqb}
+use lib.ListN.{length, drop}
+use Rattle.counting.specs.Tests.{pick}
+use Rattle.counting.specs.Pairs.{Pair}
+use Rattle.frames.specs.Frames.{orElse, unless, frame4}
+use Rattle.skew.specs.Graph.{hasPath, isWanted, canonical}
+use Rattle.matching.specs.Stock.{isPlan}
+use Rattle.lanes.specs.GraphFile.{graphIn, graphFault}
+use Rattle.lanes.specs.StockFile.{stockIn, stockFault, planText, sheetText}
+use Rattle.lanes.specs.CertificateFile.{certFault, certHolds, pathText, barrierText}
+use Rattle.lanes.specs.declared.Tally.{Tally}
+use Rattle.lanes.specs.declared.Told.{Told}
+use Rattle.lanes.specs.declared.Verdict.{Verdict}
+use Rattle.lanes.specs.declared.Verdict.the-variants.{Refused, Yes, No}
+
+-- 1, then the file's questions
+abbrev pub roomFault : (buffer : List ℕ) → ℕ
+roomFault o = unless (leb 2048 (length o)) 1
+
+abbrev pub over : (new old : List ℕ) → List ℕ
+over xs old = xs ++ drop (length xs) old
+
+abbrev pub told : (number size : ℕ) → Told
+told n k = record { number = n; size = pick (eqb n 0) k 0 }
+
+abbrev pub refusalLine : (number : ℕ) → List ℕ
+refusalLine n = frame4 126 n
+
+-- THE TALLY: a count at its largest stays there
+abbrev pub largest : ℕ
+largest = 4294967295
+
+abbrev pub raised : (z : Bool) → (count : ℕ) → ℕ
+raised z x = pick (z && ltb x largest) (suc x) x
+
+abbrev pub counted : Tally → (paths barriers stocks refusals : Bool) → Tally
+counted t a b c d =
+    record {
+      paths = raised a (t .paths);
+      barriers = raised b (t .barriers);
+      stocks = raised c (t .stocks);
+      refusals = raised d (t .refusals);
+    }
+
+-- A GRAPH: some regular path, or the canonical barrier; which path is left free
+abbrev pub answerFault : (file buffer : List ℕ) → ℕ
+answerFault f o = orElse (roomFault o) (graphFault f)
+
+abbrev pub Answers : (text buffer : List ℕ) → (answer : Told) → (after : List ℕ) → Type 0
+Answers t o r v = (r ≡ told 0 (length t)) × (v ≡ over t o)
+
+abbrev pub GraphOwes : (file buffer : List ℕ) → (answer : Told) → (after : List ℕ) → Type 0
+GraphOwes f o r v =
+    (eqb (answerFault f o) 0 ≡ false → (r ≡ told (answerFault f o) 0) × (v ≡ o)) ×
+    (answerFault f o ≡ 0 →
+    (hasPath (graphIn f) ≡ false → Answers (barrierText (canonical (graphIn f))) o r v) ×
+    (hasPath (graphIn f) ≡ true → (is : List ℕ) × ((isWanted (graphIn f) is ≡ true) × Answers (pathText is) o r v)))
+
+abbrev pub graphTally : (file buffer : List ℕ) → Tally → Tally
+graphTally f o t =
+    counted t (eqb (answerFault f o) 0 && hasPath (graphIn f)) (eqb (answerFault f o) 0 && not (hasPath (graphIn f))) false
+    (not (eqb (answerFault f o) 0))
+
+-- THE CHECK: the graph's questions, then the certificate's with 40 added
+abbrev pub checkFault : (graph cert : List ℕ) → ℕ
+checkFault f c =
+    orElse (graphFault f) (pick (eqb (certFault (graphIn f) c) 0) 0 (40 + certFault (graphIn f) c))
+
+abbrev pub checkPost : (graph cert : List ℕ) → Verdict
+checkPost f c = pick (eqb (checkFault f c) 0) (pick (certHolds (graphIn f) c) Yes No) (Refused (checkFault f c))
+
+-- 7A01, 7A00, or 7E and the number
+abbrev pub verdictLine : Verdict → List ℕ
+verdictLine (Refused n) = refusalLine n
+verdictLine Yes = frame4 122 1
+verdictLine No = frame4 122 0
+
+-- A PLAN: which largest one is left free
+abbrev pub sheetFault : (file buffer : List ℕ) → ℕ
+sheetFault f o = orElse (roomFault o) (stockFault f)
+
+abbrev pub PlanOwes : (file buffer : List ℕ) → (answer : Told) → (after : List ℕ) → Type 0
+PlanOwes f o r v =
+    (eqb (sheetFault f o) 0 ≡ false → (r ≡ told (sheetFault f o) 0) × (v ≡ o)) ×
+    (sheetFault f o ≡ 0 → (ps : List Pair) × ((isPlan (stockIn f) ps ≡ true) × Answers (planText ps) o r v))
+
+-- THE SHEET
+abbrev pub sheetOfFile : (file : List ℕ) → List ℕ
+sheetOfFile f = sheetText (stockIn f .cameras) (stockIn f .fits)
+
+abbrev pub sheetPost : (file buffer : List ℕ) → Told
+sheetPost f o = told (sheetFault f o) (length (sheetOfFile f))
+
+abbrev pub sheetLeaves : (file buffer : List ℕ) → List ℕ
+sheetLeaves f o = pick (eqb (sheetFault f o) 0) (over (sheetOfFile f) o) o
+
+abbrev pub stockTally : (file buffer : List ℕ) → Tally → Tally
+stockTally f o t = counted t false false (eqb (sheetFault f o) 0) (not (eqb (sheetFault f o) 0))

@@ -1,0 +1,139 @@
+-- What is promised of every graph file and of every two stock files. Each promise is a type; a term of the type is the theorem's proof (the
+-- definitions are document 03's, with SheetsByFits and SheetNumber). Assumes nothing: these are definitions.
+--   ReachesByPaths    demand 2: a node is reachable exactly if a regular path from the source ends there
+--   PathOrBarrier     demand 2: a path and a barrier exclude each other, and without a path the canonical one is a barrier
+--   GreatestIs        demand 3: the greatest number of pairs, by all pairings of the file's fits; and there is a plan
+--   MarksAre          demand 3: the marks, by all largest pairings
+--   SheetsTell        demand 3: sheets are alike exactly when cameras, greatest number and every mark are; each is the sheet defined
+--   SheetsByFits      demand 3: the same cameras and fits get the same sheet, whichever pairs are lit and whatever stood in the buffers
+--   SheetNumber       demand 3: the number in a sheet's bytes is the length of some pairing of the fits, and of no longer one
+--   Marked            G1 to G5 and S1 to S7
+use mathlib.Core.Path.{_≡_}
+use mathlib.Core.Logic.{_↔_}
+use mathlib.Core.Bool.{Bool, true, false, _&&_, _||_}
+use mathlib.Core.List.{List, [], _∷_}
+use Prim.Native.Nat.{ℕ, _≤_, _<_}
+use lib.Dec.{leb, eqb}
+use lib.ListN.{length, take}
+use Rattle.counting.specs.Tests.{any}
+use Rattle.counting.specs.Pairs.{Pair, pair}
+use Rattle.frames.specs.Frames.{hexAt}
+use Rattle.skew.specs.Graph.{Graph, isRegular, endOf, isWanted, isReachable, hasPath, isBarrier, canonical}
+use Rattle.matching.specs.Stock.{Stock, isIncluded, isPairing, greatest, markOf, marksOf, isPlan}
+use Rattle.lanes.specs.GraphFile.{graphIn, graphFault}
+use Rattle.lanes.specs.StockFile.{stockIn, stockFault}
+use Rattle.lanes.specs.Entry.{sheetOfFile, sheetLeaves, sheetFault}
+
+unfoldable pub areBytes : List ℕ → Bool
+areBytes [] = true
+areBytes (b ∷ bs) = leb b 255 && areBytes bs
+
+-- DEMAND 2
+abbrev pub SomePath : Graph → (to : ℕ) → Type 0
+SomePath g w = (is : List ℕ) × ((isRegular g is ≡ true) × (endOf g (g .source) is ≡ w))
+
+abbrev pub IsGraphFile : (file : List ℕ) → Type 0
+IsGraphFile f = (areBytes f ≡ true) × (graphFault f ≡ 0)
+
+abbrev pub ReachesByPaths : Type 0
+ReachesByPaths =
+    (f : List ℕ) (w : ℕ) → IsGraphFile f → (isReachable (graphIn f) w ≡ true) ↔ SomePath (graphIn f) w
+
+abbrev pub PathOrBarrier : Type 0
+PathOrBarrier =
+    (f : List ℕ) → IsGraphFile f →
+    (hasPath (graphIn f) ≡ false → isBarrier (graphIn f) (canonical (graphIn f)) ≡ true) ×
+    ((is cs : List ℕ) → isWanted (graphIn f) is ≡ true → isBarrier (graphIn f) cs ≡ false)
+
+-- the greatest number of pairs, and some plan for every stock
+abbrev pub GreatestIs : Type 0
+GreatestIs =
+    (f : List ℕ) (ps : List Pair) → areBytes f ≡ true → stockFault f ≡ 0 →
+    (isPairing (stockIn f .fits) ps ≡ true → length ps ≤ greatest (stockIn f .fits)) ×
+    ((qs : List Pair) × ((isPairing (stockIn f .fits) qs ≡ true) × (length qs ≡ greatest (stockIn f .fits)))) ×
+    ((qs : List Pair) × (isPlan (stockIn f) qs ≡ true))
+
+-- a mark, by largest pairings
+abbrev pub LeftBySome : (fits : List Pair) → (camera : ℕ) → Type 0
+LeftBySome fs u =
+    (ps : List Pair) × ((isPairing fs ps ≡ true) × (length ps ≡ greatest fs) × (isIncluded ps u ≡ false))
+
+abbrev pub FitsSomeLeft : (fits : List Pair) → (camera : ℕ) → Type 0
+FitsSomeLeft fs u =
+    (v : ℕ) × ((any (λ (x : Pair). (eqb (x .first) u && eqb (x .second) v) || (eqb (x .first) v && eqb (x .second) u)) fs ≡ true) × LeftBySome fs v)
+
+abbrev pub MarksAre : Type 0
+MarksAre =
+    (f : List ℕ) (u : ℕ) → areBytes f ≡ true → stockFault f ≡ 0 → u < stockIn f .cameras →
+    ((markOf (stockIn f .fits) u ≡ 0) ↔ LeftBySome (stockIn f .fits) u) ×
+    ((markOf (stockIn f .fits) u ≡ 1) ↔
+    ((LeftBySome (stockIn f .fits) u → true ≡ false) × FitsSomeLeft (stockIn f .fits) u))
+
+-- DEMAND 3: what the call left at the buffer's front
+abbrev pub sheetIn : (file buffer : List ℕ) → List ℕ
+sheetIn f o = take (length (sheetOfFile f)) (sheetLeaves f o)
+
+unfoldable pub same : List ℕ → List ℕ → Bool
+same [] [] = true
+same [] (y ∷ ys) = false
+same (x ∷ xs) [] = false
+same (x ∷ xs) (y ∷ ys) = eqb x y && same xs ys
+
+abbrev pub alike : (one other : Stock) → Bool
+alike s t =
+    eqb (s .cameras) (t .cameras) && eqb (greatest (s .fits)) (greatest (t .fits)) &&
+    same (marksOf (s .cameras) (s .fits)) (marksOf (t .cameras) (t .fits))
+
+abbrev pub SheetsTell : Type 0
+SheetsTell =
+    (f g o p : List ℕ) → areBytes f ≡ true → areBytes g ≡ true → sheetFault f o ≡ 0 → sheetFault g p ≡ 0 →
+    ((sheetIn f o ≡ sheetIn g p) ↔ (alike (stockIn f) (stockIn g) ≡ true)) × (sheetIn f o ≡ sheetOfFile f)
+
+abbrev pub SheetsByFits : Type 0
+SheetsByFits =
+    (f g o p : List ℕ) → sheetFault f o ≡ 0 → sheetFault g p ≡ 0 → stockIn f .cameras ≡ stockIn g .cameras →
+    stockIn f .fits ≡ stockIn g .fits → sheetIn f o ≡ sheetIn g p
+
+abbrev pub SheetNumber : Type 0
+SheetNumber =
+    (f o : List ℕ) → sheetFault f o ≡ 0 →
+    ((qs : List Pair) × ((isPairing (stockIn f .fits) qs ≡ true) × (length qs ≡ hexAt 2 2 (sheetIn f o)))) ×
+    ((ps : List Pair) → isPairing (stockIn f .fits) ps ≡ true → length ps ≤ hexAt 2 2 (sheetIn f o))
+
+-- THE MARKED SET
+abbrev pub arc : (tail head : ℕ) → Pair
+arc a b = pair a b
+
+abbrev pub graphOf : (pairs : ℕ) → List Pair → Graph
+graphOf n xs = record { pairs = n; source = 0; arcs = xs }
+
+abbrev pub g3 : List Pair
+g3 = arc 0 2 ∷ arc 3 1 ∷ []
+
+abbrev pub g4 : List Pair
+g4 = arc 0 2 ∷ arc 3 1 ∷ arc 2 3 ∷ arc 2 3 ∷ []
+
+abbrev pub g5 : List Pair
+g5 = arc 0 2 ∷ arc 3 1 ∷ arc 2 3 ∷ arc 2 3 ∷ arc 0 2 ∷ arc 3 1 ∷ []
+
+abbrev pub Barred : (pairs : ℕ) → List Pair → (classes : List ℕ) → Type 0
+Barred n xs cs =
+    (hasPath (graphOf n xs) ≡ false) × (canonical (graphOf n xs) ≡ cs) × (isBarrier (graphOf n xs) cs ≡ true)
+
+abbrev pub StockGives : (cameras : ℕ) → (fits : List Pair) → (pairs : ℕ) → (marks : List ℕ) → Type 0
+StockGives n fs k ms = (greatest fs ≡ k) × (marksOf n fs ≡ ms)
+
+abbrev pub triangles : List Pair
+triangles = arc 0 1 ∷ arc 0 2 ∷ arc 1 2 ∷ arc 2 3 ∷ arc 3 4 ∷ arc 3 5 ∷ arc 4 5 ∷ []
+
+abbrev pub Marked : Type 0
+Marked =
+    Barred 1 [] (1 ∷ 2 ∷ []) × (isWanted (graphOf 1 (arc 0 1 ∷ arc 0 1 ∷ [])) (0 ∷ []) ≡ true) ×
+    (isWanted (graphOf 1 (arc 0 1 ∷ arc 0 1 ∷ [])) (1 ∷ []) ≡ true) × Barred 2 g3 (1 ∷ 2 ∷ 1 ∷ 2 ∷ []) ×
+    Barred 2 g4 (1 ∷ 2 ∷ 3 ∷ 3 ∷ []) × (isRegular (graphOf 2 g4) (0 ∷ 2 ∷ 1 ∷ []) ≡ false) ×
+    (isWanted (graphOf 2 g5) (0 ∷ 2 ∷ 5 ∷ []) ≡ true) × StockGives 0 [] 0 [] × StockGives 2 (arc 0 1 ∷ []) 1 (2 ∷ 2 ∷ []) ×
+    StockGives 3 (arc 0 1 ∷ arc 0 2 ∷ arc 1 2 ∷ []) 1 (0 ∷ 0 ∷ 0 ∷ []) ×
+    StockGives 4 (arc 0 1 ∷ arc 0 2 ∷ arc 0 3 ∷ []) 1 (1 ∷ 0 ∷ 0 ∷ 0 ∷ []) ×
+    (isPlan (record { cameras = 4; fits = arc 0 1 ∷ arc 1 2 ∷ arc 2 3 ∷ []; lit = arc 1 2 ∷ [] }) (arc 0 1 ∷ arc 2 3 ∷ []) ≡ true) ×
+    StockGives 5 (arc 0 1 ∷ arc 0 4 ∷ arc 1 2 ∷ arc 2 3 ∷ arc 3 4 ∷ []) 2 (0 ∷ 0 ∷ 0 ∷ 0 ∷ 0 ∷ []) ×
+    StockGives 6 triangles 3 (2 ∷ 2 ∷ 2 ∷ 2 ∷ 2 ∷ 2 ∷ [])
