@@ -1,3 +1,11 @@
 -- Laws by subject; each file stands on those above it.
---   Marked     the marked set, as one fact about the definitions
+--   Marked           the marked set, as one fact about the definitions
+--   Scans            a list asked from its front
+--   Tables           pairs that stand in two slices
+--   PairScans        questions 9 to 13 put to such pairs from the front
+--   SharedCameras    question 14, with a table of marks
 pub mod Marked
+pub mod Scans
+pub mod Tables
+pub mod PairScans
+pub mod SharedCameras

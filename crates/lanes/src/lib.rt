@@ -1,4 +1,6 @@
 // The pairing engine's calls.
+//   questions    questions 9 to 14, over the numbers of a file
+pub mod questions;
 
 // Counts of what the calls answered (document 01, "Questions put to a call"); a count at its largest stays there.
 pub struct Tally {
