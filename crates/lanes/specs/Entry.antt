@@ -3,7 +3,7 @@
 --   roomFault, answerFault, sheetFault, checkFault    the first question answered no, by call
 --   over new old                                      a buffer with new bytes at the front, the others as they were
 --   told                                              a call's result: its refusal, or 0 and the answer's size
---   raised, counted                                   one more, where a count is not at its largest; the counts named
+--   raised, counted, tallied                          one more, where a count is not at its largest; of the counts named; by outcome
 --   GraphOwes, graphTally                             a graph's answer: some path, or the canonical barrier
 --   checkPost, verdictLine                            the check's answer, and the line that says it
 --   PlanOwes                                          a stock's plan: which largest one is left free
@@ -24,6 +24,8 @@ use Rattle.lanes.specs.GraphFile.{graphIn, graphFault}
 use Rattle.lanes.specs.StockFile.{stockIn, stockFault, planText, sheetText}
 use Rattle.lanes.specs.CertificateFile.{certFault, certHolds, pathText, barrierText}
 use Rattle.lanes.specs.declared.Tally.{Tally}
+use Rattle.lanes.specs.declared.Outcome.{Outcome}
+use Rattle.lanes.specs.declared.Outcome.the-variants.{Path, Barrier, Stock, Refusal}
 use Rattle.lanes.specs.declared.Told.{Told}
 use Rattle.lanes.specs.declared.Verdict.{Verdict}
 use Rattle.lanes.specs.declared.Verdict.the-variants.{Refused, Yes, No}
@@ -56,6 +58,13 @@ counted t a b c d =
       stocks = raised c (t .stocks);
       refusals = raised d (t .refusals);
     }
+
+-- one more of the count that an outcome names
+abbrev pub tallied : Tally → Outcome → Tally
+tallied t Path = counted t true false false false
+tallied t Barrier = counted t false true false false
+tallied t Stock = counted t false false true false
+tallied t Refusal = counted t false false false true
 
 -- A GRAPH: some regular path, or the canonical barrier; which path is left free
 abbrev pub answerFault : (file buffer : List ℕ) → ℕ

@@ -1,5 +1,7 @@
 // The pairing engine's calls.
 //   questions    questions 9 to 14, over the numbers of a file
+//   counts       the tally, counted up
+pub mod counts;
 pub mod questions;
 
 // Counts of what the calls answered (document 01, "Questions put to a call"); a count at its largest stays there.
@@ -8,6 +10,14 @@ pub struct Tally {
     pub barriers: u32,
     pub stocks: u32,
     pub refusals: u32,
+}
+
+// What a call came to: the count that it adds to.
+pub enum Outcome {
+    Path,
+    Barrier,
+    Stock,
+    Refusal,
 }
 
 // A call's result: 0 and the answer's bytes at the buffer's front, or the refusal and 0.
