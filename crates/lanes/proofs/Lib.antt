@@ -4,8 +4,10 @@
 --   Tables           pairs that stand in two slices
 --   PairScans        questions 9 to 13 put to such pairs from the front
 --   SharedCameras    question 14, with a table of marks
+--   AnswerLines      answers written line by line
 pub mod Marked
 pub mod Scans
 pub mod Tables
 pub mod PairScans
 pub mod SharedCameras
+pub mod AnswerLines

@@ -4,10 +4,12 @@
 --   StockFile          stock files: questions 5 and 8 to 14, the stock a file holds; plans and standing sheets as they are written
 --   CertificateFile    paths and barriers: questions 4 and 8, 9, whether one holds, and as they are written
 --   Entry              what each call answers and leaves: result, buffer and tally
+--   Answers            answers as they are written line by line
 --   Promise            what is promised of every file: demands 2 and 3, and the marked set
 pub mod Tables
 pub mod GraphFile
 pub mod StockFile
 pub mod CertificateFile
 pub mod Entry
+pub mod Answers
 pub mod Promise

@@ -1,6 +1,8 @@
 // The pairing engine's calls.
 //   questions    questions 9 to 14, over the numbers of a file
+//   answers      answers written into a lent buffer
 //   counts       the tally, counted up
+pub mod answers;
 pub mod counts;
 pub mod questions;
 
