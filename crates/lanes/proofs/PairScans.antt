@@ -14,11 +14,11 @@ use lib.Dec.{eqb, ltb}
 use borrow.Author.Tests.{eq-eqb, ne-eqb, lt-ltb, le-ltb, le-leb, lt-leb}
 use lib.ListN.{getD, drop}
 use Rattle.counting.specs.Tests.{all}
-use Rattle.counting.specs.Pairs.{Pair, pair}
+use Rattle.counting.specs.Pairs.{Pair, pair, pairsOf}
 use Rattle.skew.specs.Graph.{mate, matesFit}
 use Rattle.matching.specs.Stock.{samePair, hasPair, pairBefore, pairsRise}
-use Rattle.lanes.specs.Tables.{pairsOf, Holds}
-use Rattle.lanes.specs.StockFile.{pairNamed}
+use Rattle.lanes.specs.Tables.{Holds}
+use Rattle.matching.specs.Promise.{pairNamed}
 use Rattle.lanes.specs.CertificateFile.{namesInOrder}
 use Rattle.lanes.proofs.Tables.{pairs-next, pairs-none}
 

@@ -13,12 +13,12 @@ use borrow.Author.Tests.{eqb-true, eqb-false, eq-eqb, ne-eqb}
 use lib.ListN.{length, getD, drop, set, length-set}
 use lib.Seq.{getD-set-same, getD-set-other}
 use Rattle.counting.specs.Tests.{all, any}
-use Rattle.counting.specs.Pairs.{Pair, pair}
+use Rattle.counting.specs.Pairs.{Pair, pair, pairsOf}
 use Rattle.counting.specs.Lists.{In}
 use Rattle.counting.proofs.Booleans.{by-test, and-left, and-right}
 use Rattle.counting.proofs.Membership.{each-all}
 use Rattle.matching.specs.Stock.{meets, noneShared}
-use Rattle.lanes.specs.Tables.{pairsOf, Holds, isMarked, isFree}
+use Rattle.lanes.specs.Tables.{Holds, isMarked, isFree}
 use Rattle.lanes.proofs.Tables.{pairs-next, pairs-none}
 
 -- ONE CAMERA MARKED

@@ -10,8 +10,8 @@ use Prim.Native.Nat.{ℕ, zero, suc, _+_, _≤_, _<_}
 use native.Mathlib.Omega.{arith}
 use lib.ListN.{length, getD, take, drop, drop-of-length-le}
 use lib.Seq.{length-take-le, getD-take}
-use Rattle.counting.specs.Pairs.{pair, noPair}
-use Rattle.lanes.specs.Tables.{zipPairs, pairsOf, Holds}
+use Rattle.counting.specs.Pairs.{pair, noPair, zipPairs, pairsOf}
+use Rattle.lanes.specs.Tables.{Holds}
 use Rattle.lanes.specs.CertificateFile.{secondsOf}
 use Rattle.lanes.proofs.Scans.{drop-next}
 

@@ -10,16 +10,16 @@
 --   Marked            G1 to G5 and S1 to S7
 use mathlib.Core.Path.{_≡_}
 use mathlib.Core.Logic.{_↔_}
-use mathlib.Core.Bool.{Bool, true, false, _&&_, _||_}
+use mathlib.Core.Bool.{Bool, true, false, _&&_}
 use mathlib.Core.List.{List, [], _∷_}
 use Prim.Native.Nat.{ℕ, _≤_, _<_}
 use lib.Dec.{leb, eqb}
 use lib.ListN.{length, take}
-use Rattle.counting.specs.Tests.{any}
 use Rattle.counting.specs.Pairs.{Pair, pair}
 use Rattle.frames.specs.Frames.{hexAt}
 use Rattle.skew.specs.Graph.{Graph, isRegular, endOf, isWanted, isReachable, hasPath, isBarrier, canonical}
-use Rattle.matching.specs.Stock.{Stock, isIncluded, isPairing, greatest, markOf, marksOf, isPlan}
+use Rattle.matching.specs.Promise.{LeftBySome, FitsSomeLeft}
+use Rattle.matching.specs.Stock.{Stock, isPairing, greatest, markOf, marksOf, isPlan}
 use Rattle.lanes.specs.GraphFile.{graphIn, graphFault}
 use Rattle.lanes.specs.StockFile.{stockIn, stockFault}
 use Rattle.lanes.specs.Entry.{sheetOfFile, sheetLeaves, sheetFault}
@@ -54,14 +54,6 @@ GreatestIs =
     ((qs : List Pair) × (isPlan (stockIn f) qs ≡ true))
 
 -- a mark, by largest pairings
-abbrev pub LeftBySome : (fits : List Pair) → (camera : ℕ) → Type 0
-LeftBySome fs u =
-    (ps : List Pair) × ((isPairing fs ps ≡ true) × (length ps ≡ greatest fs) × (isIncluded ps u ≡ false))
-
-abbrev pub FitsSomeLeft : (fits : List Pair) → (camera : ℕ) → Type 0
-FitsSomeLeft fs u =
-    (v : ℕ) × ((any (λ (x : Pair). (eqb (x .first) u && eqb (x .second) v) || (eqb (x .first) v && eqb (x .second) u)) fs ≡ true) × LeftBySome fs v)
-
 abbrev pub MarksAre : Type 0
 MarksAre =
     (f : List ℕ) (u : ℕ) → areBytes f ≡ true → stockFault f ≡ 0 → u < stockIn f .cameras →

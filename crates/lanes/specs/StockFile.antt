@@ -2,18 +2,18 @@
 -- are document 03's). Assumes nothing: these are definitions.
 --   headerFits               question 5: at most 127 cameras
 --   stockIn                  the stock that a file's frames say
---   pairNamed                both cameras of a pair exist
 --   stockFault               questions 2 to 9 and 11 to 14: the number of the first answered no, 0 where there is none
 --   markLines, sheetText     the standing sheet, from the cameras and the fits alone
 --   planLines, planText      a plan
 use mathlib.Core.Bool.{Bool, _&&_}
 use mathlib.Core.List.{List, [], _∷_, _++_}
 use Prim.Native.Nat.{ℕ, suc}
-use lib.Dec.{ltb, leb}
+use lib.Dec.{leb}
 use lib.ListN.{length}
 use Rattle.counting.specs.Tests.{all}
 use Rattle.counting.specs.Pairs.{Pair}
 use Rattle.frames.specs.Frames.{orElse, unless, hexAt, firstLine, bodyLines, shapeFault, stockForm, pairsIn, frame4, frame6, frameOf4}
+use Rattle.matching.specs.Promise.{pairNamed}
 use Rattle.matching.specs.Stock.{Stock, hasPair, noneShared, greatest, marksOf, pairsRise}
 
 abbrev pub headerFits : (file : List ℕ) → Bool
@@ -22,9 +22,6 @@ headerFits f = leb (hexAt 2 2 (firstLine f)) 127
 abbrev pub stockIn : (file : List ℕ) → Stock
 stockIn f =
     record { cameras = hexAt 2 2 (firstLine f); fits = pairsIn 18 (bodyLines f); lit = pairsIn 19 (bodyLines f) }
-
-abbrev pub pairNamed : (cameras : ℕ) → Pair → Bool
-pairNamed n x = ltb (x .first) n && ltb (x .second) n
 
 abbrev pub stockFault : (file : List ℕ) → ℕ
 stockFault f =

@@ -5,11 +5,11 @@ ghost use Prim.Native.Nat.{ℕ, _≤_};
 ghost use lib.Dec.{ltb};
 ghost use lib.ListN.{length, take};
 ghost use Rattle.counting.specs.Tests.{all};
-ghost use Rattle.counting.specs.Pairs.{pair};
+ghost use Rattle.counting.specs.Pairs.{pair, pairsOf};
 ghost use Rattle.skew.specs.Graph.{mate, matesFit};
 ghost use Rattle.matching.specs.Stock.{samePair, hasPair, noneShared, pairBefore, pairsRise};
-ghost use Rattle.lanes.specs.Tables.{pairsOf, Holds};
-ghost use Rattle.lanes.specs.StockFile.{pairNamed};
+ghost use Rattle.lanes.specs.Tables.{Holds};
+ghost use Rattle.matching.specs.Promise.{pairNamed};
 ghost use Rattle.lanes.specs.CertificateFile.{namesInOrder};
 
 // 9, of arcs and of cameras: is every number of the pairs below the bound?

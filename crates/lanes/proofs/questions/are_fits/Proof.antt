@@ -6,7 +6,7 @@ use borrow.Author.Tests.{not-true, not-false}
 use lib.ListN.{drop}
 use Rattle.counting.specs.Tests.{all}
 use Rattle.matching.specs.Stock.{hasPair}
-use Rattle.lanes.specs.Tables.{pairsOf}
+use Rattle.counting.specs.Pairs.{pairsOf}
 use Rattle.lanes.proofs.PairScans.{all-end, all-step, all-stop}
 use Rattle.lanes.proofs.questions.are_fits.Statement.{statement}
 use Rattle.lanes.proofs.questions.are_fits.Tie as tie

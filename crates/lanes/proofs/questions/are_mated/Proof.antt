@@ -4,7 +4,7 @@ use Prim.Native.Nat.{_≤_, _-_}
 use native.Mathlib.Omega.{arith}
 use lib.ListN.{drop}
 use Rattle.skew.specs.Graph.{matesFit}
-use Rattle.lanes.specs.Tables.{pairsOf}
+use Rattle.counting.specs.Pairs.{pairsOf}
 use Rattle.lanes.proofs.PairScans.{mates-end, mates-last, mates-step, mates-first, mates-second}
 use Rattle.lanes.proofs.questions.are_mated.Statement.{statement}
 use Rattle.lanes.proofs.questions.are_mated.Tie as tie

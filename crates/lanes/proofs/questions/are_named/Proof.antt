@@ -4,8 +4,8 @@ use Prim.Native.Nat.{_≤_, _-_}
 use native.Mathlib.Omega.{arith}
 use lib.ListN.{drop}
 use Rattle.counting.specs.Tests.{all}
-use Rattle.lanes.specs.Tables.{pairsOf}
-use Rattle.lanes.specs.StockFile.{pairNamed}
+use Rattle.counting.specs.Pairs.{pairsOf}
+use Rattle.matching.specs.Promise.{pairNamed}
 use Rattle.lanes.proofs.PairScans.{all-end, named-step, named-first, named-second}
 use Rattle.lanes.proofs.questions.are_named.Statement.{statement}
 use Rattle.lanes.proofs.questions.are_named.Tie as tie

@@ -3,9 +3,8 @@ use mathlib.Core.Path.{_≡_, refl, sym, _∙_}
 use Prim.Native.Nat.{_≤_, _-_}
 use native.Mathlib.Omega.{arith}
 use lib.ListN.{drop}
-use Rattle.counting.specs.Pairs.{pair}
+use Rattle.counting.specs.Pairs.{pair, pairsOf}
 use Rattle.matching.specs.Stock.{hasPair}
-use Rattle.lanes.specs.Tables.{pairsOf}
 use Rattle.lanes.proofs.PairScans.{has-end, has-step, has-hit}
 use Rattle.lanes.proofs.questions.has_pair.Statement.{statement}
 use Rattle.lanes.proofs.questions.has_pair.Tie as tie

@@ -3,7 +3,7 @@ use mathlib.Core.Path.{_≡_, refl, sym, _∙_}
 use Prim.Native.Nat.{_≤_, _-_}
 use native.Mathlib.Omega.{arith}
 use lib.ListN.{drop}
-use Rattle.lanes.specs.Tables.{pairsOf}
+use Rattle.counting.specs.Pairs.{pairsOf}
 use Rattle.lanes.specs.CertificateFile.{namesInOrder}
 use Rattle.lanes.proofs.PairScans.{order-end, order-step, order-first, order-second}
 use Rattle.lanes.proofs.questions.in_order.Statement.{statement}

@@ -5,7 +5,7 @@ use native.Mathlib.Omega.{arith}
 use lib.ListN.{length, drop, length-set}
 use Rattle.counting.specs.Tests.{all}
 use Rattle.matching.specs.Stock.{noneShared}
-use Rattle.lanes.specs.Tables.{pairsOf}
+use Rattle.counting.specs.Pairs.{pairsOf}
 use Rattle.lanes.proofs.SharedCameras.{sharesNone, shared-start, shared-step, shared-first, shared-second, shared-end}
 use Rattle.lanes.proofs.questions.none_shared.Statement.{statement}
 use Rattle.lanes.proofs.questions.none_shared.Tie as tie

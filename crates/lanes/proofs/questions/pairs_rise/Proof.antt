@@ -5,7 +5,7 @@ use native.Mathlib.Omega.{arith}
 use borrow.Author.Tests.{not-true, not-false}
 use lib.ListN.{drop}
 use Rattle.matching.specs.Stock.{pairsRise}
-use Rattle.lanes.specs.Tables.{pairsOf}
+use Rattle.counting.specs.Pairs.{pairsOf}
 use Rattle.lanes.proofs.PairScans.{rise-end, rise-first, rise-last, rise-step, rise-turn}
 use Rattle.lanes.proofs.questions.pairs_rise.Statement.{statement}
 use Rattle.lanes.proofs.questions.pairs_rise.Tie as tie
