@@ -5,9 +5,15 @@
 --   PairScans        questions 9 to 13 put to such pairs from the front
 --   SharedCameras    question 14, with a table of marks
 --   AnswerLines      answers written line by line
+--   AcceptedFiles    what the questions settle of a file
+--   SheetBytes       what a standing sheet's bytes tell
+--   Promises         the promises, kept for every file
 pub mod Marked
 pub mod Scans
 pub mod Tables
 pub mod PairScans
 pub mod SharedCameras
 pub mod AnswerLines
+pub mod AcceptedFiles
+pub mod SheetBytes
+pub mod Promises

@@ -1,0 +1,77 @@
+-- The promises, kept for every file. Assumes nothing.
+--   reaches-by-paths, path-or-barrier              demand 2
+--   greatest-is, marks-are, sheets-tell            demand 3
+--   sheets-by-fits, sheet-number-is                and what it says of lit pairs, and of the number in a sheet's bytes
+use mathlib.Core.Path.{_≡_, sym, ap, _∙_}
+use mathlib.Core.List.{List}
+use Prim.Native.Nat.{ℕ, _<_}
+use native.Mathlib.Omega.{arith}
+use lib.ListN.{length, drop}
+use lib.Seq.{take-append-seam}
+use borrow.Author.Tests.{eq-eqb}
+use Rattle.frames.specs.Frames.{hexAt}
+use Rattle.frames.proofs.Questions.{or-none}
+use Rattle.skew.proofs.Promise as skew
+use Rattle.matching.specs.Stock.{greatest}
+use Rattle.matching.proofs.Matchings.{list-count}
+use Rattle.matching.proofs.Greatest.{greatest-bound, greatest-pairing}
+use Rattle.matching.proofs.Promises as matching
+use Rattle.matching.proofs.Promises.{well-formed-fits}
+use Rattle.lanes.specs.GraphFile.{graphIn}
+use Rattle.lanes.specs.StockFile.{stockIn, stockFault, sheetText}
+use Rattle.lanes.specs.Entry.{roomFault, sheetFault, sheetOfFile}
+use Rattle.lanes.specs.Promise.{ReachesByPaths, PathOrBarrier, GreatestIs, MarksAre, sheetIn, SheetsTell, SheetsByFits, SheetNumber}
+use Rattle.lanes.proofs.AcceptedFiles.{accepted-graph, accepted-stock, stock-few}
+use Rattle.lanes.proofs.SheetBytes.{sheets-alike, alike-sheets, sheet-number}
+
+pub reaches-by-paths : ReachesByPaths
+reaches-by-paths f w a = skew.reaches-by-paths (graphIn f) (accepted-graph f (a .1)) w
+
+pub path-or-barrier : PathOrBarrier
+path-or-barrier f a = skew.path-or-barrier (graphIn f) (accepted-graph f (a .1))
+
+pub greatest-is : GreatestIs
+greatest-is f ps b e = matching.greatest-is (stockIn f) ps (accepted-stock f e)
+
+pub marks-are : MarksAre
+marks-are f u b e h = matching.marks-are (stockIn f) u (accepted-stock f e) h
+
+-- THE SHEET'S BYTES
+greatest-low : (f : List ℕ) → stockFault f ≡ 0 → greatest (stockIn f .fits) < 256
+greatest-low f e =
+    let w = accepted-stock f e in
+    let r = greatest-pairing (stockIn f .fits) in
+    let c = list-count (stockIn f .cameras) (stockIn f .fits) (well-formed-fits (stockIn f) w) (r .0) (r .1 .0) in
+    omega (arith, r .1 .1, stock-few f e)
+
+stock-none : (f o : List ℕ) → sheetFault f o ≡ 0 → stockFault f ≡ 0
+stock-none f o e = or-none (roomFault o) (stockFault f) e .1
+
+sheet-in : (f o : List ℕ) → sheetFault f o ≡ 0 → sheetIn f o ≡ sheetOfFile f
+sheet-in f o e = rw (eq-eqb (sheetFault f o) 0 e) (take-append-seam (sheetOfFile f) (drop (length (sheetOfFile f)) o))
+
+pub sheets-tell : SheetsTell
+sheets-tell f g o p b c d e =
+    let x = sheet-in f o d in
+    let y = sheet-in g p e in (
+      (
+        λ q.
+            sheets-alike (stockIn f) (stockIn g) (greatest-low f (stock-none f o d)) (greatest-low g (stock-none g p e)) (sym x ∙ q ∙ y),
+        λ q. x ∙ alike-sheets (stockIn f) (stockIn g) q ∙ sym y,
+      ),
+      x,
+    )
+
+pub sheets-by-fits : SheetsByFits
+sheets-by-fits f g o p d e n q =
+    sheet-in f o d ∙ ap (λ (k : ℕ). sheetText k (stockIn f .fits)) n ∙ ap (sheetText (stockIn g .cameras)) q ∙ sym (sheet-in g p e)
+
+pub sheet-number-is : SheetNumber
+sheet-number-is f o e =
+    let z = stock-none f o e in
+    let h : hexAt 2 2 (sheetIn f o) ≡ greatest (stockIn f .fits) =
+    ap (hexAt 2 2) (sheet-in f o e) ∙ sheet-number (stockIn f .cameras) (stockIn f .fits) (greatest-low f z) in
+    let r = greatest-pairing (stockIn f .fits) in (
+      (r .0, (r .1 .0, r .1 .1 ∙ sym h)),
+      λ ps q. let b = greatest-bound (stockIn f .cameras) (stockIn f .fits) (well-formed-fits (stockIn f) (accepted-stock f z)) ps q in omega arith,
+    )
