@@ -8,6 +8,8 @@
 --   AcceptedFiles    what the questions settle of a file
 --   SheetBytes       what a standing sheet's bytes tell
 --   Promises         the promises, kept for every file
+--   Bodies           body lines counted
+--   GraphFiles       the questions of a graph file
 pub mod Marked
 pub mod Scans
 pub mod Tables
@@ -17,3 +19,5 @@ pub mod AnswerLines
 pub mod AcceptedFiles
 pub mod SheetBytes
 pub mod Promises
+pub mod Bodies
+pub mod GraphFiles

@@ -2,6 +2,7 @@
 --   headerFits    question 5: mate pairs 1 to 128, the source a node
 --   graphIn       the graph that a file's frames say
 --   arcNamed      both ends of an arc exist
+--   arcsFault     questions 9 and 10, of the arcs alone
 --   graphFault    questions 2 to 10: the number of the first answered no, 0 where there is none
 use mathlib.Core.Bool.{Bool, _&&_}
 use mathlib.Core.List.{List}
@@ -11,6 +12,7 @@ use lib.ListN.{length}
 use Rattle.counting.specs.Tests.{all}
 use Rattle.counting.specs.Pairs.{Pair}
 use Rattle.frames.specs.Frames.{isIn, orElse, unless, hexAt, firstLine, bodyLines, shapeFault, graphForm, pairsIn}
+use Rattle.matching.specs.Promise.{pairNamed}
 use Rattle.skew.specs.Graph.{Graph, nodes, matesFit}
 
 abbrev pub headerFits : (file : List ℕ) → Bool
@@ -22,6 +24,10 @@ graphIn f =
 
 abbrev pub arcNamed : Graph → Pair → Bool
 arcNamed g x = ltb (x .first) (nodes g) && ltb (x .second) (nodes g)
+
+-- 9 and 10, of arcs between so many nodes
+abbrev pub arcsFault : (nodes : ℕ) → List Pair → ℕ
+arcsFault n xs = orElse (unless (all (pairNamed n) xs) 9) (unless (matesFit xs) 10)
 
 abbrev pub graphFault : (file : List ℕ) → ℕ
 graphFault f =

@@ -5,6 +5,7 @@
 --   CertificateFile    paths and barriers: questions 4 and 8, 9, whether one holds, and as they are written
 --   Entry              what each call answers and leaves: result, buffer and tally
 --   Answers            answers as they are written line by line
+--   Readers            what reading a file answers, and holds in lent slices
 --   Promise            what is promised of every file: demands 2 and 3, and the marked set
 pub mod Tables
 pub mod GraphFile
@@ -12,4 +13,5 @@ pub mod StockFile
 pub mod CertificateFile
 pub mod Entry
 pub mod Answers
+pub mod Readers
 pub mod Promise
