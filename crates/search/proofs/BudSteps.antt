@@ -168,13 +168,12 @@ module _ (n s : ℕ) (ts hs bs vs ss : List ℕ) (k d i : ℕ) (vs′ ms : List 
     born : (u : ℕ) → bornBefore bs′ k u ≡ st .reached u
     born u =
         by-test (st .reached u)
-        (λ l.
-        rw (birth-kept u l, l, ne-eqb (getD bs u 0) k (λ q. omega (arith, H .invariant .before-clock u l))))
+        (λ l. rw (birth-kept u l, ne-eqb (getD bs u 0) k (λ q. omega (arith, H .invariant .before-clock u l))))
         (λ f.
         rw f
         (by-test (new .reached u)
-        (λ l. rw (l, eq-eqb (getD bs′ u 0) k (step .birth-new u f l)))
-        (λ l. rw l)))
+        (λ l. rw (eq-eqb (getD bs′ u 0) k (step .birth-new u f l)))
+        (λ l. rw (unreached-is (getD bs′ u 0) l, ne-eqb 0 k (λ q. omega (arith, H .clock-late))))))
 
     stepped : Bridging g st i → (ms′ : List ℕ) → Mapped zeroed ms ms′ (length ms) → BudStepped g i st bs′ vs′ ss′ ms′ k
     stepped B ms′ MZ =

@@ -8,6 +8,9 @@
 --   TreeSteps    the tree step on the tables
 --   Ascents      the ascent from the ends of an arc
 --   BudSteps     the bud step on the tables
+--   Queues       the queue of reached nodes
+--   Looks        arcs looked at
+--   Searches     node by node, the start and the end
 pub mod Judging
 pub mod Tables
 pub mod Classes
@@ -17,3 +20,6 @@ pub mod States
 pub mod TreeSteps
 pub mod Ascents
 pub mod BudSteps
+pub mod Queues
+pub mod Looks
+pub mod Searches

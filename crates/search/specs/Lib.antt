@@ -4,8 +4,10 @@
 --   Walks      a run of arcs, judged arc by arc
 --   State      the state of a search
 --   Steps      tree step and bud step
+--   Queue      the order of a search, its start and end
 pub mod Table
 pub mod Classes
 pub mod Walks
 pub mod State
 pub mod Steps
+pub mod Queue

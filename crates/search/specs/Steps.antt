@@ -13,7 +13,7 @@
 --   bornBefore bs k u             u was reached before the event k
 use mathlib.Core.Path.{_≡_}
 use mathlib.Core.Logic.{_⊎_}
-use mathlib.Core.Bool.{Bool, true, false, _&&_, not}
+use mathlib.Core.Bool.{Bool, true, false}
 use mathlib.Core.List.{List}
 use Prim.Native.Nat.{ℕ, _+_, _/_, _≤_, _<_}
 use lib.Dec.{ltb, eqb}
@@ -97,7 +97,7 @@ pub record Later (g : Graph) (st new : State) : Type 0 where
   pub settled-still : (j : ℕ) → j < length (g .arcs) → SettledArc g st j → SettledArc g new j
 
 abbrev pub bornBefore : (births : List ℕ) (clock node : ℕ) → Bool
-bornBefore bs k u = ltb 0 (getD bs u 0) && not (eqb (getD bs u 0) k)
+bornBefore bs k u = pick (eqb (getD bs u 0) k) false (ltb 0 (getD bs u 0))
 
 pub record BudStepped (g : Graph) (i : ℕ) (st : State) (bs vs ss ms : List ℕ) (k : ℕ) : Type 0 where
   pub state : StateHeld g bs vs ss (k + 1)

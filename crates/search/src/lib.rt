@@ -3,7 +3,9 @@
 //   path       is a run of arcs the wanted path?
 //   barrier    is a table of classes a barrier?
 //   steps      tree step and bud step
+//   search     the order of the steps: a queue of reached nodes
 pub mod barrier;
 mod node;
 pub mod path;
+mod search;
 mod steps;

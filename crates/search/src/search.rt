@@ -1,0 +1,268 @@
+// The search for a regular path from the source to its mate (document 000, section 2.3): a queue of reached nodes, each node's arcs looked at once.
+//   next_arc      finds a node's arcs, one after the other
+//   look          the step that an arc asks for
+//   scan          a node's arcs looked at
+//   search        node by node, until the source's mate is reached or every reached node is scanned
+ghost use mathlib.Core.Path.{_≡_};
+ghost use Prim.Native.Nat.{_+_, _*_, _≤_, _<_};
+ghost use lib.ListN.{length};
+ghost use Rattle.search.specs.Table.{graphOf, ArcTable};
+ghost use Rattle.search.specs.State.{stateOf, SearchHeld, Clear};
+ghost use Rattle.search.specs.Steps.{Mapped};
+ghost use Rattle.search.specs.Queue.{Queued, queuedBelow, Enqueued, Leaving, ReachedArc, Decided, Looked, NextArc, Searching, doubled, Ended};
+use crate::node::mate_of;
+use crate::node::wide;
+use crate::steps::bud_step;
+use crate::steps::tree_step;
+
+// The clock, which numbers the next event, and the number of nodes in the queue.
+pub struct Progress {
+    pub clock: usize,
+    pub count: usize,
+}
+
+// The nodes reached by the event `clock` go to the end of the queue. The number of nodes in it then.
+fn enqueue(birth: &[usize], clock: usize, queue: &mut [usize], count: usize) -> usize
+    requires { ⌜ length (now queue) ≡ length (now birth) ⌝ }
+    requires { ⌜ Queued (queuedBelow (now birth) clock 0) (now queue) count ⌝ }
+    ensures { λ r. ⌜ Enqueued (queuedBelow (now (birth .entry)) clock (length (now (birth .entry)))) (now (queue .entry)) count (now (queue .exit)) r ⌝ }
+{
+    let mut m = count;
+    let mut v: usize = 0;
+    while v < birth.len() {
+        if birth[v] == clock {
+            queue[m] = v;
+            m += 1;
+        }
+        v += 1;
+    }
+    m
+}
+
+// Is the arc within one bud, or a base arc, or the mate of one?
+fn is_settled(
+    pairs: usize,
+    source: usize,
+    tails: &[u8],
+    heads: &[u8],
+    birth: &[usize],
+    via: &[usize],
+    base: &[usize],
+    clock: usize,
+    i: usize,
+) -> bool
+    requires { ⌜ SearchHeld pairs source (now tails) (now heads) (now birth) (now via) (now base) clock ⌝ }
+    requires { ⌜ ReachedArc (graphOf pairs source (now tails) (now heads)) (stateOf (now birth) (now via) (now base) clock) i ⌝ }
+    ensures { λ r. ⌜ Decided (graphOf pairs source (now (tails .entry)) (now (heads .entry))) (stateOf (now (birth .entry)) (now (via .entry)) (now (base .entry)) clock) i r ⌝ }
+{
+    let x = wide(tails[i]);
+    let y = wide(heads[i]);
+    let p = base[x / 2];
+    let q = base[y / 2];
+    if p == q {
+        if birth[y] == 0 {
+            return false;
+        }
+        return true;
+    }
+    if via[q] == i {
+        return true;
+    }
+    if via[p] == mate_of(i) {
+        return true;
+    }
+    false
+}
+
+// The step that an arc of a reached node asks for, if any.
+fn look(
+    pairs: usize,
+    source: usize,
+    tails: &[u8],
+    heads: &[u8],
+    birth: &mut [usize],
+    via: &mut [usize],
+    base: &mut [usize],
+    mark: &mut [usize],
+    queue: &mut [usize],
+    p: Progress,
+    i: usize,
+) -> Progress
+    requires { ⌜ SearchHeld pairs source (now tails) (now heads) (now birth) (now via) (now base) (p .clock) ⌝ }
+    requires { ⌜ Leaving (graphOf pairs source (now tails) (now heads)) (stateOf (now birth) (now via) (now base) (p .clock)) i ⌝ }
+    requires { ⌜ Clear (graphOf pairs source (now tails) (now heads)) (now mark) ⌝ }
+    requires { ⌜ Queued (stateOf (now birth) (now via) (now base) (p .clock) .reached) (now queue) (p .count) × (length (now queue) ≡ 2 * pairs) ⌝ }
+    ensures { λ r. ⌜ Looked (graphOf pairs source (now (tails .entry)) (now (heads .entry))) i (stateOf (now (birth .entry)) (now (via .entry)) (now (base .entry)) (p .clock)) (now (queue .entry)) (p .count) (now (birth .exit)) (now (via .exit)) (now (base .exit)) (now (mark .exit)) (now (queue .exit)) (r .clock) (r .count) ⌝ }
+{
+    let clock = p.clock;
+    let count = p.count;
+    let y = wide(heads[i]);
+    let m = mate_of(y);
+    if birth[m] == 0 {
+        if birth[y] != 0 {
+            return p;
+        }
+        tree_step(pairs, source, tails, heads, birth, via, base, clock, i);
+        queue[count] = y;
+        return Progress {
+            clock: clock + 1,
+            count: count + 1,
+        };
+    }
+    if is_settled(pairs, source, tails, heads, birth, via, base, clock, i) {
+        return p;
+    }
+    bud_step(
+        pairs,
+        source,
+        tails,
+        heads,
+        birth,
+        via,
+        base,
+        mark,
+        clock,
+        i,
+    );
+    let more = enqueue(birth, clock, queue, count);
+    Progress {
+        clock: clock + 1,
+        count: more,
+    }
+}
+
+// The first arc from `from` on that leaves x, or the number of arcs.
+fn next_arc(tails: &[u8], x: usize, from: usize) -> usize
+    requires { ⌜ from ≤ length (now tails) ⌝ }
+    ensures { λ r. ⌜ NextArc (now (tails .entry)) x from r ⌝ }
+{
+    let mut i = from;
+    while i < tails.len() {
+        if wide(tails[i]) == x {
+            return i;
+        }
+        i += 1;
+    }
+    i
+}
+
+// Looks at each arc of the next node in the queue.
+fn scan(
+    pairs: usize,
+    source: usize,
+    tails: &[u8],
+    heads: &[u8],
+    birth: &mut [usize],
+    via: &mut [usize],
+    base: &mut [usize],
+    mark: &mut [usize],
+    queue: &mut [usize],
+    p: Progress,
+    taken: usize,
+) -> Progress
+    requires { ⌜ Searching pairs source (now tails) (now heads) (now birth) (now via) (now base) (now mark) (now queue) (p .clock) (p .count) taken ⌝ }
+    requires { ⌜ taken < p .count ⌝ }
+    ensures { λ r. ⌜ Searching pairs source (now (tails .entry)) (now (heads .entry)) (now (birth .exit)) (now (via .exit)) (now (base .exit)) (now (mark .exit)) (now (queue .exit)) (r .clock) (r .count) (taken + 1) ⌝ }
+{
+    let x = queue[taken];
+    let mut r = p;
+    let mut i = next_arc(tails, x, 0);
+    while i < tails.len() {
+        r = look(
+            pairs,
+            source,
+            tails,
+            heads,
+            birth,
+            via,
+            base,
+            mark,
+            queue,
+            r,
+            i,
+        );
+        i = next_arc(tails, x, i + 1);
+    }
+    r
+}
+
+// Each mate pair a fragment of its own.
+fn reset_bases(base: &mut [usize])
+    requires { ⌜ length (now base) ≤ 128 ⌝ }
+    ensures { λ _. ⌜ Mapped doubled (now (base .entry)) (now (base .exit)) (length (now (base .entry))) ⌝ }
+{
+    let mut k: usize = 0;
+    while k < base.len() {
+        base[k] = 2 * k;
+        k += 1;
+    }
+}
+
+// The source alone is reached, and stands in the queue.
+fn start(
+    pairs: usize,
+    source: usize,
+    tails: &[u8],
+    heads: &[u8],
+    birth: &mut [usize],
+    via: &mut [usize],
+    base: &mut [usize],
+    mark: &[usize],
+    queue: &mut [usize],
+)
+    requires { ⌜ ArcTable pairs source (now tails) (now heads) ⌝ }
+    requires { ⌜ Clear (graphOf pairs source (now tails) (now heads)) (now birth) × Clear (graphOf pairs source (now tails) (now heads)) (now mark) ⌝ }
+    requires { ⌜ (length (now via) ≡ 2 * pairs) × (length (now base) ≡ pairs) × (length (now queue) ≡ 2 * pairs) ⌝ }
+    ensures { λ _. ⌜ Searching pairs source (now (tails .entry)) (now (heads .entry)) (now (birth .exit)) (now (via .exit)) (now (base .exit)) (now (mark .entry)) (now (queue .exit)) 2 1 0 ⌝ }
+{
+    reset_bases(base);
+    birth[source] = 1;
+    via[source] = tails.len();
+    base[source / 2] = source;
+    queue[0] = source;
+}
+
+// Is the source's mate reached? If not, no arc asks for a step any more.
+pub fn search(
+    pairs: usize,
+    source: usize,
+    tails: &[u8],
+    heads: &[u8],
+    birth: &mut [usize],
+    via: &mut [usize],
+    base: &mut [usize],
+    mark: &mut [usize],
+    queue: &mut [usize],
+) -> bool
+    requires { ⌜ ArcTable pairs source (now tails) (now heads) ⌝ }
+    requires { ⌜ Clear (graphOf pairs source (now tails) (now heads)) (now birth) × Clear (graphOf pairs source (now tails) (now heads)) (now mark) ⌝ }
+    requires { ⌜ (length (now via) ≡ 2 * pairs) × (length (now base) ≡ pairs) × (length (now queue) ≡ 2 * pairs) ⌝ }
+    ensures { λ r. ⌜ Ended pairs source (now (tails .entry)) (now (heads .entry)) (now (birth .exit)) (now (via .exit)) (now (base .exit)) (now (mark .exit)) r ⌝ }
+{
+    start(pairs, source, tails, heads, birth, via, base, mark, queue);
+    let goal = mate_of(source);
+    let mut p = Progress { clock: 2, count: 1 };
+    let mut taken: usize = 0;
+    loop {
+        if birth[goal] != 0 {
+            return true;
+        }
+        if taken == p.count {
+            return false;
+        }
+        p = scan(
+            pairs,
+            source,
+            tails,
+            heads,
+            birth,
+            via,
+            base,
+            mark,
+            queue,
+            p,
+            taken,
+        );
+        taken += 1;
+    }
+}
