@@ -9,6 +9,7 @@
 --   Involutions    closed under an involution without fixed points: an even number
 --   Numbering      kept elements numbered by how many come before
 --   Summation      sums compared, added and exchanged
+--   Stores         runs of stores into a list
 pub mod Booleans
 pub mod Membership
 pub mod NoRepeats
@@ -19,3 +20,4 @@ pub mod Range
 pub mod Involutions
 pub mod Numbering
 pub mod Summation
+pub mod Stores

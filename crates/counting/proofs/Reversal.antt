@@ -3,11 +3,19 @@
 --   reverse-append              of two lists joined
 --   reverse-twice               an involution, reversed twice, gives the list back
 --   distinct-reverse            an injective map makes no repeats
+--   length-reverse              as long as the list
+--   getD-reverse                the element at an index, counted from the end
 use mathlib.Core.Path.{_≡_, refl, sym, ap, subst, _∙_}
 use mathlib.Core.Logic.{_⊎_, inl, inr}
 use mathlib.Core.List.{List, [], _∷_, _++_, append-assoc, append-nil}
-use Prim.Native.Nat.{ℕ}
+use Prim.Native.Nat.{ℕ, suc, _-_, _<_}
+use native.Mathlib.Omega.{arith}
+use lib.Dec.{ltb}
+use lib.ListN.{length, getD, length-append, List·getD-append}
+use lib.Seq.{getD-append-seam}
+use borrow.Author.Tests.{ltb-true, ltb-false}
 use Rattle.counting.specs.Lists.{In, Apart, Distinct, reverseMap}
+use Rattle.counting.proofs.Booleans.{by-test}
 use Rattle.counting.proofs.Membership.{in-left, in-right, in-append}
 use Rattle.counting.proofs.NoRepeats.{distinct-append}
 
@@ -43,3 +51,20 @@ distinct-reverse f (x ∷ xs) inj d =
         let r = in-reverse f z xs m in
         d .0 (subst (λ (k : ℕ). In k xs) (inj (r .0) x (sym (r .2) ∙ e)) (r .1))
     apart z m (inr b) = b
+
+pub length-reverse : (f : ℕ → ℕ) (xs : List ℕ) → length (reverseMap f xs) ≡ length xs
+length-reverse f [] = refl
+length-reverse f (x ∷ xs) = length-append (reverseMap f xs) (f x ∷ []) ∙ omega (arith, length-reverse f xs)
+
+pub getD-reverse : (f : ℕ → ℕ) (xs : List ℕ) (j : ℕ) → j < length xs → getD (reverseMap f xs) j 0 ≡ f (getD xs (length xs - 1 - j) 0)
+getD-reverse f [] j h = absurd (omega arith)
+getD-reverse f (x ∷ xs) j h =
+    by-test (ltb j (length xs))
+    (λ t.
+    let l = ltb-true j (length xs) t in
+    let e : suc (length xs) - 1 - j ≡ suc (length xs - 1 - j) = omega arith in
+    rw e (List·getD-append (reverseMap f xs) (f x ∷ []) 0 j (omega (arith, length-reverse f xs)) ∙ getD-reverse f xs j l))
+    (λ t.
+    let e : suc (length xs) - 1 - j ≡ 0 = omega (arith, ltb-false j (length xs) t) in
+    let q : j ≡ length (reverseMap f xs) = omega (arith, length-reverse f xs, ltb-false j (length xs) t) in
+    rw (e, q) (getD-append-seam (reverseMap f xs) (f x) [] 0))

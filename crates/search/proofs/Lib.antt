@@ -11,6 +11,8 @@
 --   Queues       the queue of reached nodes
 --   Looks        arcs looked at
 --   Searches     node by node, the start and the end
+--   Reverses     a part of a path reversed, each arc mated
+--   Restores     path restoration
 pub mod Judging
 pub mod Tables
 pub mod Classes
@@ -23,3 +25,5 @@ pub mod BudSteps
 pub mod Queues
 pub mod Looks
 pub mod Searches
+pub mod Reverses
+pub mod Restores

@@ -5,9 +5,11 @@
 --   State      the state of a search
 --   Steps      tree step and bud step
 --   Queue      the order of a search, its start and end
+--   Restore    path restoration
 pub mod Table
 pub mod Classes
 pub mod Walks
 pub mod State
 pub mod Steps
 pub mod Queue
+pub mod Restore

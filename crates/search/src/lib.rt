@@ -4,8 +4,10 @@
 //   barrier    is a table of classes a barrier?
 //   steps      tree step and bud step
 //   search     the order of the steps: a queue of reached nodes
+//   restore    the path found, restored through its buds
 pub mod barrier;
 mod node;
 pub mod path;
+mod restore;
 mod search;
 mod steps;

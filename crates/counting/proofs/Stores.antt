@@ -1,0 +1,29 @@
+-- Runs of stores into a list. Assumes nothing.
+--   sets-append                     a run of stores behind another is one run
+--   getD-sets-out, getD-sets-in     what is read outside the run, and inside it
+use mathlib.Core.Path.{_≡_, refl, _∙_}
+use mathlib.Core.Logic.{_⊎_, inl, inr, ⊎-elim}
+use mathlib.Core.List.{List, [], _∷_, _++_}
+use Prim.Native.Nat.{ℕ, zero, suc, _+_, _≤_, _<_}
+use native.Mathlib.Omega.{arith}
+use lib.ListN.{length, getD, set, length-set}
+use lib.Seq.{sets, getD-set-same, getD-set-other}
+
+pub sets-append : (l : List ℕ) (i : ℕ) (xs ys : List ℕ) → sets (sets l i xs) (i + length xs) ys ≡ sets l i (xs ++ ys)
+sets-append l i [] ys = let e : i + 0 ≡ i = omega arith in rw e
+sets-append l i (x ∷ xs) ys = let e : i + suc (length xs) ≡ suc i + length xs = omega arith in rw e (sets-append (set l i x) (suc i) xs ys)
+
+pub getD-sets-out : (l : List ℕ) (i k : ℕ) (xs : List ℕ) → (k < i) ⊎ (i + length xs ≤ k) → getD (sets l i xs) k 0 ≡ getD l k 0
+getD-sets-out l i k [] h = refl
+getD-sets-out l i k (x ∷ xs) h =
+    getD-sets-out (set l i x) (suc i) k xs (⊎-elim (λ a. inl (omega arith)) (λ a. inr (omega arith)) h) ∙
+    getD-set-other l i k x 0 (λ q. ⊎-elim (λ a. omega arith) (λ a. omega arith) h)
+
+pub getD-sets-in : (l : List ℕ) (i j : ℕ) (xs : List ℕ) → j < length xs → i + length xs ≤ length l → getD (sets l i xs) (i + j) 0 ≡ getD xs j 0
+getD-sets-in l i j [] h k = absurd (omega arith)
+getD-sets-in l i zero (x ∷ xs) h k =
+    let e : i + 0 ≡ i = omega arith in
+    rw e (getD-sets-out (set l i x) (suc i) i xs (inl (omega arith)) ∙ getD-set-same l i x 0 (omega arith))
+getD-sets-in l i (suc j) (x ∷ xs) h k =
+    let e : i + suc j ≡ suc i + j = omega arith in
+    rw e (getD-sets-in (set l i x) (suc i) j xs (omega arith) (omega (arith, length-set l i x)))
