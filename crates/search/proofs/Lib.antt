@@ -1,7 +1,7 @@
 -- Laws, by subject.
 --   Judging      tests of each element of a list, judged by a loop
 --   Tables       the arc table as a list of arcs
---   Classes      classes between which an arc may go, entries counted
+--   Barriers     classes between which an arc may go, entries counted
 --   Walks        runs of arcs judged arc by arc
 --   Maps         lists mapped in place
 --   States       the tables as a state
@@ -13,9 +13,12 @@
 --   Searches     node by node, the start and the end
 --   Reverses     a part of a path reversed, each arc mated
 --   Restores     path restoration
+--   Roots        the root of a node's tree of buds
+--   ClassTables  the class table, node by node
+--   Answers      from the search's end to its answer
 pub mod Judging
 pub mod Tables
-pub mod Classes
+pub mod Barriers
 pub mod Walks
 pub mod Maps
 pub mod States
@@ -27,3 +30,6 @@ pub mod Looks
 pub mod Searches
 pub mod Reverses
 pub mod Restores
+pub mod Roots
+pub mod ClassTables
+pub mod Answers

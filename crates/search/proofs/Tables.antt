@@ -17,7 +17,7 @@ use Rattle.skew.specs.Paths.{tail, head}
 use Rattle.skew.proofs.Mates.{mate-mate, mate-below}
 use Rattle.skew.proofs.Paths.{mate-arc}
 use Rattle.search.specs.Table.{arcsOf, graphOf, ArcTable}
-use Rattle.search.specs.Classes.{Covers}
+use Rattle.search.specs.Barriers.{Covers}
 
 pub arcs-length : (ts hs : List ℕ) → length (arcsOf ts hs) ≡ length ts
 unfolding arcsOf

@@ -6,7 +6,7 @@ ghost use Rattle.counting.specs.Tests.{all, below};
 ghost use Rattle.skew.specs.Graph.{mateClass, matesAgree, largestOf, arcFits, entriesInto, isBarrier};
 ghost use Rattle.search.specs.Table.{arcsOf, graphOf, ArcTable};
 ghost use Rattle.skew.specs.Barrier.{classesFit};
-ghost use Rattle.search.specs.Classes.{Covers, allEntered};
+ghost use Rattle.search.specs.Barriers.{Covers, allEntered};
 use crate::node::mate_of;
 use crate::node::wide;
 

@@ -5,7 +5,11 @@
 //   steps      tree step and bud step
 //   search     the order of the steps: a queue of reached nodes
 //   restore    the path found, restored through its buds
+//   classes    the canonical barrier's class table
+//   answer     a path, or the barrier
+pub mod answer;
 pub mod barrier;
+mod classes;
 mod node;
 pub mod path;
 mod restore;

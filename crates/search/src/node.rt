@@ -9,6 +9,13 @@ pub fn wide(x: u8) -> usize
     x as usize
 }
 
+pub fn narrow(x: usize) -> u8
+    requires { ⌜ x < 256 ⌝ }
+    ensures { λ r. ⌜ r ≡ x ⌝ }
+{
+    x as u8
+}
+
 // The mate of a node, or of an arc.
 pub fn mate_of(v: usize) -> usize
     requires { ⌜ v < 8192 ⌝ }

@@ -3,9 +3,9 @@ use mathlib.Core.Path.{_≡_}
 use Prim.Native.Nat.{suc, _≤_, _-_}
 use native.Mathlib.Omega.{arith}
 use Rattle.counting.specs.Tests.{below}
-use Rattle.search.specs.Classes.{enteredOnce}
+use Rattle.search.specs.Barriers.{enteredOnce}
 use Rattle.search.proofs.Judging.{Judged}
-use Rattle.search.proofs.Classes.{entered-start, entered-next, entered-fails, entered-end}
+use Rattle.search.proofs.Barriers.{entered-start, entered-next, entered-fails, entered-end}
 use Rattle.search.proofs.barrier.all_entered.Statement.{statement}
 use Rattle.search.proofs.barrier.all_entered.Tie as tie
 use borrow.Author.Needs.{needs}

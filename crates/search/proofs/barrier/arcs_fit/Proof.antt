@@ -7,7 +7,7 @@ use borrow.Author.Tests.{not-true, not-false}
 use Rattle.skew.specs.Graph.{arcFits}
 use Rattle.search.specs.Table.{arcsOf}
 use Rattle.search.proofs.Judging.{Judged}
-use Rattle.search.proofs.Classes.{arcs-next, arcs-fail, arcs-end}
+use Rattle.search.proofs.Barriers.{arcs-next, arcs-fail, arcs-end}
 use Rattle.search.proofs.barrier.arcs_fit.Statement.{statement}
 use Rattle.search.proofs.barrier.arcs_fit.Tie as tie
 use borrow.Author.Needs.{needs}

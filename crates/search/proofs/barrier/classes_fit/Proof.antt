@@ -1,6 +1,6 @@
 -- `classes_fit` is `classesFit`, case by case. Assumes nothing.
 use mathlib.Core.Path.{sym}
-use Rattle.search.proofs.Classes.{fit-same, fit-from-a, fit-into-a, fit-else}
+use Rattle.search.proofs.Barriers.{fit-same, fit-from-a, fit-into-a, fit-else}
 use Rattle.search.proofs.barrier.classes_fit.Statement.{statement}
 use Rattle.search.proofs.barrier.classes_fit.Tie as tie
 

@@ -5,8 +5,8 @@ use Prim.Native.Nat.{_≤_, _-_}
 use native.Mathlib.Omega.{arith}
 use lib.ListN.{length}
 use Rattle.search.specs.Table.{arcsOf}
-use Rattle.search.specs.Classes.{Counting}
-use Rattle.search.proofs.Classes.{counting-start, counting-enters, counting-passes, counting-end, counting-small}
+use Rattle.search.specs.Barriers.{Counting}
+use Rattle.search.proofs.Barriers.{counting-start, counting-enters, counting-passes, counting-end, counting-small}
 use Rattle.search.proofs.barrier.count_entries.Statement.{statement}
 use Rattle.search.proofs.barrier.count_entries.Tie as tie
 use borrow.Author.Needs.{needs}

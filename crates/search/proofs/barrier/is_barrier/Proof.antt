@@ -5,7 +5,7 @@ use native.Mathlib.Omega.{arith}
 use lib.ListN.{length, getD}
 use borrow.Author.Tests.{eq-eqb, ne-eqb, not-true, not-false}
 use Rattle.search.proofs.Tables.{table-covers}
-use Rattle.search.proofs.Classes.{entered-counted}
+use Rattle.search.proofs.Barriers.{entered-counted}
 use borrow.Author.Needs.{needs}
 use Rattle.search.proofs.barrier.is_barrier.Statement.{statement}
 use Rattle.search.proofs.barrier.is_barrier.Tie as tie

@@ -4,7 +4,7 @@ use Prim.Native.Nat.{_≤_}
 use native.Mathlib.Omega.{arith}
 use lib.ListN.{length, drop}
 use Rattle.skew.specs.Graph.{largestOf}
-use Rattle.search.proofs.Classes.{largest-none, largest-more, largest-same}
+use Rattle.search.proofs.Barriers.{largest-none, largest-more, largest-same}
 use Rattle.search.proofs.barrier.largest.Statement.{statement}
 use Rattle.search.proofs.barrier.largest.Tie as tie
 use borrow.Author.Needs.{needs}

@@ -24,7 +24,7 @@ use Rattle.counting.proofs.Range.{length-up, in-up}
 use Rattle.skew.specs.Graph.{classAt, isXM, largestOf, arcFits, entriesInto}
 use Rattle.search.specs.Table.{arcsOf}
 use Rattle.skew.specs.Barrier.{classesFit}
-use Rattle.search.specs.Classes.{enteredOnce, allEntered, Counting}
+use Rattle.search.specs.Barriers.{enteredOnce, allEntered, Counting}
 use Rattle.search.proofs.Judging.{all-same, Judged, judged-next, judged-fails, judged-end, range-next, range-fails, range-end}
 use Rattle.search.proofs.Tables.{arcs-length, arcs-at}
 
