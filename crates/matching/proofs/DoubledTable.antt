@@ -1,17 +1,20 @@
 -- The doubled table's arcs. Assumes nothing.
 --   mate-even, mate-odd                      a camera's two nodes are mates
+--   camera-arcs-few, fit-arcs-few            at most two arcs for a camera, and for a fit
+--   camera-arcs-rest                         the arcs of cameras stand before the rest
 --   by-camera                                cases on what p says of a camera
 --   arc-kind                                 each arc is of one of the four kinds
 --   source-arc, lit-arc, other-arc           and of each kind every one is there
---   table-well-formed, table-size            a well-formed graph of at most 2 · (cameras + fits) arcs
+--   camera-size, table-size                  at most 2 · (cameras + fits) arcs
+--   table-well-formed                        a well-formed graph
 use mathlib.Core.Path.{_≡_, refl, sym, ap, subst, _∙_}
 use mathlib.Core.Logic.{inl, inr, _≢_, ⊎-elim}
 use mathlib.Core.Bool.{true, false}
-use mathlib.Core.List.{List, [], _∷_}
+use mathlib.Core.List.{List, [], _∷_, _++_, append-assoc}
 use Prim.Native.Nat.{ℕ, suc, _+_, _*_, _%_, _≤_, _<_}
 use native.Mathlib.Omega.{arith}
 use lib.Dec.{ltb, eqb}
-use lib.ListN.{length}
+use lib.ListN.{length, length-append}
 use borrow.Author.Tests.{eqb-true, eqb-false, eq-eqb, ne-eqb, ltb-true, ltb-false, lt-ltb}
 use Rattle.counting.specs.Tests.{below}
 use Rattle.counting.specs.Lists.{In}
@@ -23,7 +26,7 @@ use Rattle.skew.specs.Graph.{Graph, mate, arcAt, matesFit}
 use Rattle.skew.specs.Paths.{head, WellFormed}
 use Rattle.skew.proofs.Mates.{mate-is}
 use Rattle.matching.specs.Matching.{FitsBelow, Fits, Matching}
-use Rattle.matching.specs.DoubledTable.{cameraArcs, fitArcs, doubledTable, Arc, fromSource, toMate, litFit, otherFit, ArcBetween}
+use Rattle.matching.specs.DoubledTable.{arcsOfCamera, cameraArcs, arcsOfFit, fitArcs, doubledTable, Arc, fromSource, toMate, litFit, otherFit, ArcBetween}
 use Rattle.matching.proofs.Matchings.{fits-low}
 
 pub mate-even : (k : ℕ) → mate (2 * k) ≡ 2 * k + 1
@@ -37,12 +40,42 @@ mates-cons : (x y : Pair) (rest : List Pair) → y .first ≡ mate (x .second) �
 unfolding matesFit
 mates-cons x y rest a b e = and-both _ _ (and-both _ _ (eq-eqb (y .first) (mate (x .second)) a) (eq-eqb (y .second) (mate (x .first)) b)) e
 
+pub camera-arcs-few : (n k w : ℕ) → length (arcsOfCamera n k w) ≤ 2
+camera-arcs-few n k w =
+    by-test (eqb w k) (λ t. rw t (omega arith)) (λ t. by-test (ltb k w) (λ s. rw (t, s) (omega arith)) (λ s. rw (t, s) (omega arith)))
+
+pub fit-arcs-few : (u v w : ℕ) → length (arcsOfFit u v w) ≤ 2
+fit-arcs-few u v w = by-test (eqb w v) (λ t. rw t (omega arith)) (λ t. rw t (omega arith))
+
+pub camera-arcs-rest : (n : ℕ) (p : ℕ → ℕ) (ks : List ℕ) (rest : List Pair) → cameraArcs n p ks [] ++ rest ≡ cameraArcs n p ks rest
+unfolding cameraArcs
+camera-arcs-rest n p [] rest = refl
+camera-arcs-rest n p (k ∷ ks) rest =
+    append-assoc (arcsOfCamera n k (p k)) (cameraArcs n p ks []) rest ∙
+    ap (λ (l : List Pair). arcsOfCamera n k (p k) ++ l) (camera-arcs-rest n p ks rest)
+
 pub by-camera : {C : Type 0} (p : ℕ → ℕ) (k : ℕ) → (p k ≡ k → eqb (p k) k ≡ true → C) →
     (k < p k → eqb (p k) k ≡ false → ltb k (p k) ≡ true → C) → (p k < k → eqb (p k) k ≡ false → ltb k (p k) ≡ false → C) → C
 by-camera p k a b c =
     by-test (eqb (p k) k) (λ t. a (eqb-true _ _ t) t)
     (λ t. by-test (ltb k (p k)) (λ s. b (ltb-true _ _ s) t s)
     (λ s. let ne = eqb-false (p k) k t in let le = ltb-false k (p k) s in c (⊎-elim (λ z. absurd (ne z)) (λ z. omega arith) (same-or (p k) k)) t s))
+
+-- HOW MANY
+fit-size : (p : ℕ → ℕ) (xs : List Pair) → length (fitArcs p xs) ≤ 2 * length xs
+unfolding fitArcs
+fit-size p [] = omega arith
+fit-size p (x ∷ xs) =
+    omega (arith, fit-size p xs, fit-arcs-few (x .first) (x .second) (p (x .first)), length-append (arcsOfFit (x .first) (x .second) (p (x .first))) (fitArcs p xs))
+
+pub camera-size : (n : ℕ) (p : ℕ → ℕ) (ks : List ℕ) (rest : List Pair) → length (cameraArcs n p ks rest) ≤ 2 * length ks + length rest
+unfolding cameraArcs
+camera-size n p [] rest = omega arith
+camera-size n p (k ∷ ks) rest =
+    omega (arith, camera-size n p ks rest, camera-arcs-few n k (p k), length-append (arcsOfCamera n k (p k)) (cameraArcs n p ks rest))
+
+pub table-size : (n : ℕ) (fs : List Pair) (p : ℕ → ℕ) → length (doubledTable n fs p .arcs) ≤ 2 * n + 2 * length fs
+table-size n fs p = omega (arith, camera-size n p (below n) (fitArcs p fs), fit-size p fs, length-up 0 n)
 
 module _ (n : ℕ) (fs : List Pair) (F : FitsBelow n fs) (p : ℕ → ℕ) (M : Matching fs p) where
   abbrev g : Graph
@@ -206,20 +239,3 @@ module _ (n : ℕ) (fs : List Pair) (F : FitsBelow n fs) (p : ℕ → ℕ) (M : 
       head-low i (toMate k l e a b) = omega arith
       head-low i (litFit k l pl e a b) = omega arith
       head-low i (otherFit u v f e a b) = omega (arith, fits-low n fs F u v f .1)
-
-  -- HOW MANY
-  fit-size : (xs : List Pair) → length (fitArcs p xs) ≤ 2 * length xs
-  unfolding fitArcs
-  fit-size [] = omega arith
-  fit-size (x ∷ xs) =
-      let ih = fit-size xs in by-test (eqb (p (x .first)) (x .second)) (λ t. rw t (omega arith)) (λ t. rw t (omega arith))
-
-  camera-size : (ks : List ℕ) (rest : List Pair) → length (cameraArcs n p ks rest) ≤ 2 * length ks + length rest
-  unfolding cameraArcs
-  camera-size [] rest = omega arith
-  camera-size (k ∷ ks) rest =
-      let ih = camera-size ks rest in
-      by-camera p k (λ q t. rw t (omega arith)) (λ q t s. rw (t, s) (omega arith)) (λ q t s. rw (t, s) (omega arith))
-
-  pub table-size : length (g .arcs) ≤ 2 * n + 2 * length fs
-  table-size = omega (arith, camera-size (below n) (fitArcs p fs), fit-size fs, length-up 0 n)

@@ -7,11 +7,12 @@
 --   Lights n ps p      ps and p light the same cameras, all below n, each once
 --   partner ps k       the camera paired with k in ps, k itself where there is none
 --   isLit, litFits     the fits that p lights, in the order of the fits
+--   pairOf k w         camera k with its partner w, where that is the larger
 --   pairsOf p ks       each camera of ks with its partner, where that is the larger
 use mathlib.Core.Path.{_≡_}
 use mathlib.Core.Logic.{_⊎_, _≢_}
 use mathlib.Core.Bool.{Bool}
-use mathlib.Core.List.{List, [], _∷_}
+use mathlib.Core.List.{List, [], _∷_, _++_}
 use Prim.Native.Nat.{ℕ, _<_}
 use lib.Dec.{ltb, eqb}
 use Rattle.counting.specs.Tests.{pick, below, keep}
@@ -53,6 +54,9 @@ isLit p x = eqb (p (x .first)) (x .second)
 unfoldable pub litFits : (partner : ℕ → ℕ) → (fits : List Pair) → List Pair
 litFits p fs = keep (isLit p) fs
 
+abbrev pub pairOf : (camera partner : ℕ) → List Pair
+pairOf k w = pick (ltb k w) (pair k w ∷ []) []
+
 unfoldable pub pairsOf : (partner : ℕ → ℕ) → (cameras : List ℕ) → List Pair
 pairsOf p [] = []
-pairsOf p (k ∷ ks) = pick (ltb k (p k)) (pair k (p k) ∷ pairsOf p ks) (pairsOf p ks)
+pairsOf p (k ∷ ks) = pairOf k (p k) ++ pairsOf p ks
