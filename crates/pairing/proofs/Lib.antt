@@ -1,0 +1,9 @@
+-- Laws that connect the code to the theory.
+--   Writing      pairs of numbers written into two tables
+--   Doubling     the doubled table, written arc by arc
+--   Following    a path followed by rotations
+--   Lighting     a row read from pairs, and its pairs in order
+pub mod Writing
+pub mod Doubling
+pub mod Following
+pub mod Lighting

@@ -1,0 +1,122 @@
+// Rows of partners: read from pairs, rotated along a path, written as pairs.
+ghost use mathlib.Core.Path.{_≡_};
+ghost use mathlib.Core.List.{[]};
+ghost use Prim.Native.Nat.{_<_, _≤_};
+ghost use lib.ListN.{length, getD, drop};
+ghost use Rattle.counting.specs.Tests.{below};
+ghost use Rattle.matching.specs.Matching.{partner, pairOf, pairsOf};
+ghost use Rattle.matching.specs.Rotation.{rotateAlong, Rotates};
+ghost use Rattle.matching.specs.Row.{partnerIn, rotateRow};
+ghost use Rattle.pairing.specs.Table.{pairsIn, PairTable, Wrote, Listed};
+ghost use Rattle.pairing.specs.Row.{tableGraph};
+
+// u, which is unlit, is lit with v; v's old partner becomes unlit.
+fn rotate(row: &mut [u8], u: u8, v: u8)
+    requires { ⌜ u < length (now row) ⌝ }
+    requires { ⌜ v < length (now row) ⌝ }
+    requires { ⌜ getD (now row) v 0 < length (now row) ⌝ }
+    ensures { λ r. ⌜ now (row .exit) ≡ rotateRow (now (row .entry)) u v ⌝ }
+{
+    let w = row[v as usize];
+    row[w as usize] = w;
+    row[u as usize] = v;
+    row[v as usize] = u;
+}
+
+// The rotations of a regular path from the source: its arcs 1, 3, 5 and so on.
+pub fn augment(row: &mut [u8], tails: &[u8], heads: &[u8], path: &[usize])
+    requires { ⌜ length (now heads) ≡ length (now tails) ⌝ }
+    requires { ⌜ Rotates (length (now row)) (tableGraph (now row) (now tails) (now heads)) (drop 1 (now path)) (partnerIn (now row)) ⌝ }
+    ensures { λ r. ⌜ partnerIn (now (row .exit)) ≡ rotateAlong (tableGraph (now (row .entry)) (now (tails .entry)) (now (heads .entry))) (drop 1 (now (path .entry))) (partnerIn (now (row .entry))) ⌝ }
+{
+    let mut i: usize = 1;
+    while i + 1 < path.len() {
+        let e = path[i];
+        rotate(row, tails[e] / 2, heads[e] / 2);
+        i += 2;
+    }
+}
+
+// Every camera unlit.
+fn unlight(row: &mut [u8])
+    requires { ⌜ length (now row) ≤ 127 ⌝ }
+    ensures { λ r. ⌜ partnerIn (now (row .exit)) ≡ partner [] ⌝ }
+{
+    let mut k: usize = 0;
+    while k < row.len() {
+        row[k] = k as u8;
+        k += 1;
+    }
+}
+
+// The pairs lit, the last first, so that a camera's first pair counts.
+fn light(row: &mut [u8], us: &[u8], vs: &[u8])
+    requires { ⌜ PairTable (length (now row)) (now us) (now vs) ⌝ }
+    requires { ⌜ partnerIn (now row) ≡ partner [] ⌝ }
+    ensures { λ r. ⌜ partnerIn (now (row .exit)) ≡ partner (pairsIn (now (us .entry)) (now (vs .entry))) ⌝ }
+{
+    let mut i = us.len();
+    while 0 < i {
+        i -= 1;
+        let u = us[i];
+        let v = vs[i];
+        row[v as usize] = u;
+        row[u as usize] = v;
+    }
+}
+
+// The row of a list of pairs.
+pub fn row_of(row: &mut [u8], us: &[u8], vs: &[u8])
+    requires { ⌜ length (now row) ≤ 127 ⌝ }
+    requires { ⌜ PairTable (length (now row)) (now us) (now vs) ⌝ }
+    ensures { λ r. ⌜ partnerIn (now (row .exit)) ≡ partner (pairsIn (now (us .entry)) (now (vs .entry))) ⌝ }
+{
+    unlight(row);
+    light(row, us, vs);
+}
+
+// Camera u with its partner v, where that is the larger.
+fn put_pair(us: &mut [u8], vs: &mut [u8], at: usize, u: u8, v: u8) -> usize
+    requires { ⌜ at < length (now us) ⌝ }
+    requires { ⌜ at < length (now vs) ⌝ }
+    ensures { λ r. ⌜ Wrote (now (us .entry)) (now (vs .entry)) at (now (us .exit)) (now (vs .exit)) r (pairOf u v) ⌝ }
+{
+    if u < v {
+        us[at] = u;
+        vs[at] = v;
+        return at + 1;
+    }
+    at
+}
+
+// The pairs of a row in order: how many, in the front of us and vs.
+pub fn pairs_of(row: &[u8], us: &mut [u8], vs: &mut [u8]) -> usize
+    requires { ⌜ length (now row) ≤ 127 ⌝ }
+    requires { ⌜ length (now row) ≤ length (now us) ⌝ }
+    requires { ⌜ length (now row) ≤ length (now vs) ⌝ }
+    ensures { λ r. ⌜ Listed (now (us .exit)) (now (vs .exit)) r (pairsOf (partnerIn (now (row .entry))) (below (length (now (row .entry))))) ⌝ }
+{
+    let mut at: usize = 0;
+    let mut k: usize = 0;
+    while k < row.len() {
+        at = put_pair(us, vs, at, k as u8, row[k]);
+        k += 1;
+    }
+    at
+}
+
+// How many pairs a row has.
+pub fn pair_count(row: &[u8]) -> usize
+    requires { ⌜ length (now row) ≤ 127 ⌝ }
+    ensures { λ r. ⌜ r ≡ length (pairsOf (partnerIn (now (row .entry))) (below (length (now (row .entry))))) ⌝ }
+{
+    let mut count: usize = 0;
+    let mut k: usize = 0;
+    while k < row.len() {
+        if (k as u8) < row[k] {
+            count += 1;
+        }
+        k += 1;
+    }
+    count
+}

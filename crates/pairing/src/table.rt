@@ -1,0 +1,109 @@
+// The doubled table of a row of partners (document 01, "Stocks"): tails and heads of its arcs, each followed by its mate.
+ghost use mathlib.Core.List.{[], _∷_};
+ghost use Prim.Native.Nat.{ℕ, _+_, _*_, _<_, _≤_};
+ghost use lib.ListN.{length, getD};
+ghost use Rattle.counting.specs.Tests.{below};
+ghost use Rattle.counting.specs.Pairs.{pair};
+ghost use Rattle.matching.specs.Matching.{Matching};
+ghost use Rattle.matching.specs.Row.{partnerIn};
+ghost use Rattle.matching.specs.DoubledTable.{arcsOfCamera, cameraArcs, arcsOfFit, fitArcs};
+ghost use Rattle.pairing.specs.Table.{pairsIn, FitTable, Wrote, Doubled};
+
+// An arc and its mate, at `at`.
+fn put(tails: &mut [u8], heads: &mut [u8], at: usize, a: u8, b: u8, c: u8, d: u8) -> usize
+    requires { ⌜ at + 1 < length (now tails) ⌝ }
+    requires { ⌜ at + 1 < length (now heads) ⌝ }
+    ensures { λ r. ⌜ Wrote (now (tails .entry)) (now (heads .entry)) at (now (tails .exit)) (now (heads .exit)) r (pair a b ∷ pair c d ∷ []) ⌝ }
+{
+    tails[at] = a;
+    tails[at + 1] = c;
+    heads[at] = b;
+    heads[at + 1] = d;
+    at + 2
+}
+
+// What the pairing says of camera k with partner w.
+fn put_camera(n: u8, k: u8, w: u8, tails: &mut [u8], heads: &mut [u8], at: usize) -> usize
+    requires { ⌜ n < 128 ⌝ }
+    requires { ⌜ k < n ⌝ }
+    requires { ⌜ w < n ⌝ }
+    requires { ⌜ at + 1 < length (now tails) ⌝ }
+    requires { ⌜ at + 1 < length (now heads) ⌝ }
+    ensures { λ r. ⌜ Wrote (now (tails .entry)) (now (heads .entry)) at (now (tails .exit)) (now (heads .exit)) r (arcsOfCamera n k w) ⌝ }
+{
+    if w == k {
+        return put(tails, heads, at, 2 * n, 2 * k, 2 * k + 1, 2 * n + 1);
+    }
+    if k < w {
+        return put(tails, heads, at, 2 * k + 1, 2 * w, 2 * w + 1, 2 * k);
+    }
+    at
+}
+
+// A fit of u, whose partner is w, and v: nothing if it is lit.
+fn put_fit(u: u8, v: u8, w: u8, tails: &mut [u8], heads: &mut [u8], at: usize) -> usize
+    requires { ⌜ u < 127 ⌝ }
+    requires { ⌜ v < 127 ⌝ }
+    requires { ⌜ at + 1 < length (now tails) ⌝ }
+    requires { ⌜ at + 1 < length (now heads) ⌝ }
+    ensures { λ r. ⌜ Wrote (now (tails .entry)) (now (heads .entry)) at (now (tails .exit)) (now (heads .exit)) r (arcsOfFit u v w) ⌝ }
+{
+    if w == v {
+        return at;
+    }
+    put(tails, heads, at, 2 * u, 2 * v + 1, 2 * v, 2 * u + 1)
+}
+
+// The arcs of every camera.
+fn put_cameras(row: &[u8], tails: &mut [u8], heads: &mut [u8]) -> usize
+    requires { ⌜ length (now row) ≤ 127 ⌝ }
+    requires { ⌜ ((k : ℕ) → k < length (now row) → getD (now row) k 0 < length (now row)) ⌝ }
+    requires { ⌜ 2 * length (now row) ≤ length (now tails) ⌝ }
+    requires { ⌜ 2 * length (now row) ≤ length (now heads) ⌝ }
+    ensures { λ r. ⌜ Wrote (now (tails .entry)) (now (heads .entry)) 0 (now (tails .exit)) (now (heads .exit)) r (cameraArcs (length (now (row .entry))) (partnerIn (now (row .entry))) (below (length (now (row .entry)))) []) ⌝ }
+{
+    let n = row.len() as u8;
+    let mut at: usize = 0;
+    let mut k: u8 = 0;
+    while k < n {
+        at = put_camera(n, k, row[k as usize], tails, heads, at);
+        k += 1;
+    }
+    at
+}
+
+// The arcs of every fit that is not lit.
+fn put_fits(
+    row: &[u8],
+    us: &[u8],
+    vs: &[u8],
+    tails: &mut [u8],
+    heads: &mut [u8],
+    first: usize,
+) -> usize
+    requires { ⌜ FitTable (length (now row)) (now us) (now vs) ⌝ }
+    requires { ⌜ first + 2 * length (now us) ≤ length (now tails) ⌝ }
+    requires { ⌜ first + 2 * length (now us) ≤ length (now heads) ⌝ }
+    ensures { λ r. ⌜ Wrote (now (tails .entry)) (now (heads .entry)) first (now (tails .exit)) (now (heads .exit)) r (fitArcs (partnerIn (now (row .entry))) (pairsIn (now (us .entry)) (now (vs .entry)))) ⌝ }
+{
+    let mut at = first;
+    let mut i: usize = 0;
+    while i < us.len() {
+        let u = us[i];
+        at = put_fit(u, vs[i], row[u as usize], tails, heads, at);
+        i += 1;
+    }
+    at
+}
+
+// The doubled table of the row: how many arcs, in the front of tails and heads.
+pub fn table(row: &[u8], us: &[u8], vs: &[u8], tails: &mut [u8], heads: &mut [u8]) -> usize
+    requires { ⌜ FitTable (length (now row)) (now us) (now vs) ⌝ }
+    requires { ⌜ Matching (pairsIn (now us) (now vs)) (partnerIn (now row)) ⌝ }
+    requires { ⌜ 8192 ≤ length (now tails) ⌝ }
+    requires { ⌜ 8192 ≤ length (now heads) ⌝ }
+    ensures { λ r. ⌜ Doubled (now (row .entry)) (pairsIn (now (us .entry)) (now (vs .entry))) (now (tails .exit)) (now (heads .exit)) r ⌝ }
+{
+    let first = put_cameras(row, tails, heads);
+    put_fits(row, us, vs, tails, heads, first)
+}
