@@ -3,15 +3,16 @@
 --   no-path-largest, no-path-greatest, no-path-pairs     it leaves over no more than any other; it has the greatest number of pairs
 --   outer-left, left-outer                               outer cameras are those that some largest pairing leaves over
 --   no-path-mark, no-path-marks                          a camera's mark; all marks
+--   marks-at, marks-length                               marks read off any table of nodes, one for each camera
 --   augmented-pairs, path-less, no-path-is               a path gives one pair more, so there is none exactly where the pairing is largest
-use mathlib.Core.Path.{_≡_, refl}
+use mathlib.Core.Path.{_≡_, refl, ap, _∙_}
 use mathlib.Core.Logic.{inl, inr, ⊎-elim, _↔_}
-use mathlib.Core.Bool.{true, false}
+use mathlib.Core.Bool.{Bool, true, false}
 use mathlib.Core.List.{List, [], _∷_}
-use Prim.Native.Nat.{ℕ, suc, _+_, _*_, _≤_, _<_}
+use Prim.Native.Nat.{ℕ, zero, suc, _+_, _*_, _≤_, _<_}
 use native.Mathlib.Omega.{arith}
-use lib.ListN.{length}
-use Rattle.counting.specs.Tests.{pick, below}
+use lib.ListN.{length, getD}
+use Rattle.counting.specs.Tests.{upFrom, below}
 use Rattle.counting.specs.Lists.{In}
 use Rattle.counting.specs.Pairs.{Pair}
 use Rattle.counting.proofs.Booleans.{by-test, true-false}
@@ -19,7 +20,7 @@ use Rattle.counting.proofs.Range.{in-up}
 use Rattle.skew.specs.Graph.{isReachable, hasPath}
 use Rattle.matching.specs.Stock.{greatest, leftOver, fitsLeftOver, markOf, marksFrom, marksOf}
 use Rattle.matching.specs.Matching.{FitsBelow, Matching, unlit, partner, litFits}
-use Rattle.matching.specs.DoubledTable.{doubledTable, isOuter, isInner, marksBy}
+use Rattle.matching.specs.DoubledTable.{doubledTable, isOuter, isInner, markBy, marksBy}
 use Rattle.matching.specs.Rotation.{Augments}
 use Rattle.matching.specs.Certificate.{Certificate}
 use Rattle.matching.proofs.Matchings.{fits-back, fits-low, list-matching, list-count, lit-count}
@@ -28,6 +29,18 @@ use Rattle.matching.proofs.Certificates.{largest, left-is-outer}
 use Rattle.matching.proofs.Augmentation.{reachable-left, path-more}
 use Rattle.matching.proofs.Groups.{group}
 use Rattle.matching.proofs.Decomposition.{certificate}
+
+-- MARKS READ OFF A TABLE
+pub marks-length : (f : ℕ → Bool) (ks : List ℕ) → length (marksBy f ks) ≡ length ks
+unfolding marksBy
+marks-length f [] = refl
+marks-length f (k ∷ ks) = ap suc (marks-length f ks)
+
+pub marks-at : (f : ℕ → Bool) (a n i : ℕ) → i < n → getD (marksBy f (upFrom a n)) i 0 ≡ markBy f (a + i)
+unfolding marksBy upFrom
+marks-at f a zero i h = absurd (omega arith)
+marks-at f a (suc n) zero h = ap (markBy f) (omega arith)
+marks-at f a (suc n) (suc i) h = marks-at f (suc a) n i (omega arith) ∙ ap (markBy f) (omega arith)
 
 module _ (n : ℕ) (fs : List Pair) (F : FitsBelow n fs) where
   module _ (p : ℕ → ℕ) (M : Matching fs p) (no-path : hasPath (doubledTable n fs p) ≡ false) where
@@ -65,7 +78,7 @@ module _ (n : ℕ) (fs : List Pair) (F : FitsBelow n fs) where
         left-is-outer n fs F p M (isOuter n fs p) (isInner n fs p) (group n fs F p M no-path) C (L .partners) (L .matching) (omega arith) k h (L .left)
 
     pub no-path-mark : (k : ℕ) → k < n →
-        markOf fs k ≡ pick (isReachable (doubledTable n fs p) (2 * k)) 0 (pick (isReachable (doubledTable n fs p) (2 * k + 1)) 1 2)
+        markOf fs k ≡ markBy (isReachable (doubledTable n fs p)) k
     no-path-mark k h =
         by-test (isOuter n fs p k) (λ s. rw (s, outer-left k h s))
         (λ s.
@@ -87,13 +100,17 @@ module _ (n : ℕ) (fs : List Pair) (F : FitsBelow n fs) where
         (λ y. y) in
         rw (s, t, out, w)))
 
-    marks-by : (ks : List ℕ) → ((k : ℕ) → In k ks → k < n) → marksFrom fs ks ≡ marksBy (isReachable (doubledTable n fs p)) ks
+    marks-by : (f : ℕ → Bool) → ((v : ℕ) → v < 2 * suc n → f v ≡ isReachable (doubledTable n fs p) v) → (ks : List ℕ) → ((k : ℕ) → In k ks → k < n) →
+        marksFrom fs ks ≡ marksBy f ks
     unfolding marksFrom marksBy
-    marks-by [] h = refl
-    marks-by (k ∷ ks) h = rw (marks-by ks (λ j m. h j (inr m)), no-path-mark k (h k (inl refl)))
+    marks-by f e [] h = refl
+    marks-by f e (k ∷ ks) h =
+        let l = h k (inl refl) in
+        let m : markOf fs k ≡ markBy f k = no-path-mark k l ∙ rw (e (2 * k) (omega arith), e (2 * k + 1) (omega arith)) in
+        rw (m, marks-by f e ks (λ j i. h j (inr i)))
 
-    pub no-path-marks : marksOf n fs ≡ marksBy (isReachable (doubledTable n fs p)) (below n)
-    no-path-marks = marks-by (below n) (λ k m. omega (arith, in-up 0 n k m))
+    pub no-path-marks : (f : ℕ → Bool) → ((v : ℕ) → v < 2 * suc n → f v ≡ isReachable (doubledTable n fs p) v) → marksOf n fs ≡ marksBy f (below n)
+    no-path-marks f e = marks-by f e (below n) (λ k m. omega (arith, in-up 0 n k m))
 
   -- ONE PAIR MORE for each path
   pub augmented-pairs : (p q : ℕ → ℕ) → Matching fs p → Augments n fs p q → length (litFits q fs) ≡ suc (length (litFits p fs))

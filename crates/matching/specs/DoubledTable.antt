@@ -7,7 +7,7 @@
 --   Arc n fs p x               x is an arc of one of the four kinds
 --   ArcBetween g v w           some arc of g goes from v to w
 --   isOuter, isInner           camera k with 2k reachable; with 2k+1 reachable and 2k not
---   marksBy f ks               marks read off the reachable nodes: 0 where 2k is reached, 1 where only 2k+1 is, else 2
+--   markBy f k, marksBy f ks   marks read off the reachable nodes: 0 where 2k is reached, 1 where only 2k+1 is, else 2
 use mathlib.Core.Path.{_≡_}
 use mathlib.Core.Logic.{_≢_}
 use mathlib.Core.Bool.{Bool, _&&_, not}
@@ -56,6 +56,9 @@ isOuter n fs p k = isReachable (doubledTable n fs p) (2 * k)
 abbrev pub isInner : (cameras : ℕ) → (fits : List Pair) → (partner : ℕ → ℕ) → (camera : ℕ) → Bool
 isInner n fs p k = not (isReachable (doubledTable n fs p) (2 * k)) && isReachable (doubledTable n fs p) (2 * k + 1)
 
+abbrev pub markBy : (reached : ℕ → Bool) → (camera : ℕ) → ℕ
+markBy f k = pick (f (2 * k)) 0 (pick (f (2 * k + 1)) 1 2)
+
 unfoldable pub marksBy : (reached : ℕ → Bool) → (cameras : List ℕ) → List ℕ
 marksBy f [] = []
-marksBy f (k ∷ ks) = pick (f (2 * k)) 0 (pick (f (2 * k + 1)) 1 2) ∷ marksBy f ks
+marksBy f (k ∷ ks) = markBy f k ∷ marksBy f ks
