@@ -10,6 +10,7 @@
 --   Numbering      kept elements numbered by how many come before
 --   Summation      sums compared, added and exchanged
 --   Stores         runs of stores into a list
+--   Zips           two lists, pair by pair
 pub mod Booleans
 pub mod Membership
 pub mod NoRepeats
@@ -21,3 +22,4 @@ pub mod Involutions
 pub mod Numbering
 pub mod Summation
 pub mod Stores
+pub mod Zips
