@@ -17,21 +17,21 @@ use Rattle.counting.proofs.Booleans.{by-test}
 use Rattle.counting.proofs.Range.{up-in, in-up}
 use Rattle.matching.specs.Stock.{isPairing, pairsRise}
 use Rattle.matching.specs.Pairs.{Rising}
-use Rattle.matching.specs.Matching.{FitsBelow, Fits, Matching, partner, litFits, pairsOf}
+use Rattle.matching.specs.Matching.{FitsBelow, Fits, Matching, partner, litFits, pairsInOrder}
 use Rattle.matching.proofs.Pairs.{same-pair, ends-in}
 use Rattle.matching.proofs.Rising.{rise-rising, rising-ordered, rising-same}
 use Rattle.matching.proofs.Matchings.{list-fits, list-partner, list-matching, list-lights, lit-in, in-lit, lit-rising}
 
 module _ (p : ℕ → ℕ) where
-  pub in-pairs : (ks : List ℕ) (z : Pair) → In z (pairsOf p ks) → In (z .first) ks × (z .first < z .second) × (p (z .first) ≡ z .second)
-  unfolding pairsOf
+  pub in-pairs : (ks : List ℕ) (z : Pair) → In z (pairsInOrder p ks) → In (z .first) ks × (z .first < z .second) × (p (z .first) ≡ z .second)
+  unfolding pairsInOrder
   in-pairs [] z m = absurd m
   in-pairs (k ∷ ks) z m =
-      let later : In z (pairsOf p ks) → In (z .first) (k ∷ ks) × (z .first < z .second) × (p (z .first) ≡ z .second) =
+      let later : In z (pairsInOrder p ks) → In (z .first) (k ∷ ks) × (z .first < z .second) × (p (z .first) ≡ z .second) =
       λ i. let r = in-pairs ks z i in (inr (r .0), r .1, r .2) in
       by-test (ltb k (p k))
       (λ t.
-      let i : In z (pair k (p k) ∷ pairsOf p ks) = rw t at m in
+      let i : In z (pair k (p k) ∷ pairsInOrder p ks) = rw t at m in
       ⊎-elim
       (λ e.
       let a : z .first ≡ k = ap (λ (w : Pair). w .first) e in
@@ -39,14 +39,14 @@ module _ (p : ℕ → ℕ) where
       (inl a, omega (arith, ltb-true k (p k) t), ap p a ∙ sym b)) later i)
       (λ t. later (rw t at m))
 
-  pub pairs-in : (ks : List ℕ) (k : ℕ) → In k ks → k < p k → In (pair k (p k)) (pairsOf p ks)
-  unfolding pairsOf
+  pub pairs-in : (ks : List ℕ) (k : ℕ) → In k ks → k < p k → In (pair k (p k)) (pairsInOrder p ks)
+  unfolding pairsInOrder
   pairs-in [] k m h = absurd m
   pairs-in (j ∷ ks) k (inl e) h = rw (← e, lt-ltb k (p k) h) (inl refl)
   pairs-in (j ∷ ks) k (inr m) h = by-test (ltb j (p j)) (λ t. rw t (inr (pairs-in ks k m h))) (λ t. rw t (pairs-in ks k m h))
 
-  pairs-rising : (a m : ℕ) → Rising (pairsOf p (upFrom a m))
-  unfolding pairsOf upFrom
+  pairs-rising : (a m : ℕ) → Rising (pairsInOrder p (upFrom a m))
+  unfolding pairsInOrder upFrom
   pairs-rising a zero = tt
   pairs-rising a (suc m) =
       by-test (ltb a (p a))
@@ -59,9 +59,9 @@ module _ (p : ℕ → ℕ) where
       (λ t. rw t (pairs-rising (suc a) m))
 
 module _ (n : ℕ) (fs : List Pair) (F : FitsBelow n fs) where
-  pub pairs-lit : (p : ℕ → ℕ) → Matching fs p → pairsOf p (below n) ≡ litFits p fs
+  pub pairs-lit : (p : ℕ → ℕ) → Matching fs p → pairsInOrder p (below n) ≡ litFits p fs
   pairs-lit p M =
-      rising-same (pairsOf p (below n)) (litFits p fs) (pairs-rising p 0 n) (lit-rising n fs F p M)
+      rising-same (pairsInOrder p (below n)) (litFits p fs) (pairs-rising p 0 n) (lit-rising n fs F p M)
       (λ z m.
       let r = in-pairs p (below n) z m in
       let h = r .1 in
@@ -74,7 +74,7 @@ module _ (n : ℕ) (fs : List Pair) (F : FitsBelow n fs) where
       let o = rising-ordered fs (F .rising) z (r .0) in
       let l = F .named z (r .0) in
       let e = r .1 in
-      subst (λ (w : ℕ). In (pair (z .first) w) (pairsOf p (below n))) e
+      subst (λ (w : ℕ). In (pair (z .first) w) (pairsInOrder p (below n))) e
       (pairs-in p (below n) (z .first) (up-in 0 n (z .first) (omega arith) (omega arith)) (omega arith)))
 
   pub list-lit : (ps : List Pair) → isPairing fs ps ≡ true → pairsRise ps ≡ true → litFits (partner ps) fs ≡ ps

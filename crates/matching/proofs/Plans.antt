@@ -18,7 +18,7 @@ use Rattle.counting.proofs.Booleans.{and-both, or-right, by-test}
 use Rattle.counting.proofs.Membership.{each-all}
 use Rattle.skew.specs.Graph.{hasPath}
 use Rattle.matching.specs.Stock.{Stock, isIncluded, isPairing, greatest, pairsRise, samePairs, isPlan}
-use Rattle.matching.specs.Matching.{FitsBelow, Matching, unlit, partner, litFits, pairsOf}
+use Rattle.matching.specs.Matching.{FitsBelow, Matching, unlit, partner, litFits, pairsInOrder}
 use Rattle.matching.specs.DoubledTable.{doubledTable}
 use Rattle.matching.proofs.Pairs.{included-end, end-included}
 use Rattle.matching.proofs.Rising.{rising-rise}
@@ -91,8 +91,8 @@ module _ (s : Stock) (F : FitsBelow (s .cameras) (s .fits)) (L : isPairing (s .f
         (or-right (not (eqb (length (s .lit)) (greatest fs))) _ (same-self (s .lit)))
 
     pub augmented-plan : (p : ℕ → ℕ) → Matching fs p → hasPath (doubledTable n fs p) ≡ false → ((k : ℕ) → partner (s .lit) k ≢ k → p k ≢ k) →
-        (pairsOf p (below n) ≡ pairsOf (partner (s .lit)) (below n)) ⊎ (length (s .lit) < length (pairsOf p (below n))) →
-        isPlan s (pairsOf p (below n)) ≡ true
+        (pairsInOrder p (below n) ≡ pairsInOrder (partner (s .lit)) (below n)) ⊎ (length (s .lit) < length (pairsInOrder p (below n))) →
+        isPlan s (pairsInOrder p (below n)) ≡ true
     augmented-plan p M no-path kept c =
         let same = pairs-lit n fs F p M in
         let g = no-path-pairs n fs F p M no-path in
@@ -101,7 +101,7 @@ module _ (s : Stock) (F : FitsBelow (s .cameras) (s .fits)) (L : isPairing (s .f
         let e = eqb-true _ _ t in
         ⊎-elim
         (λ stays.
-        let was : pairsOf p (below n) ≡ s .lit =
+        let was : pairsInOrder p (below n) ≡ s .lit =
         stays ∙ pairs-lit n fs F (partner (s .lit)) (list-matching n fs F (s .lit) L) ∙ list-lit n fs F (s .lit) L rises in
         subst (λ (ps : List Pair). isPlan s ps ≡ true) (sym was) (lit-plan e))
         (λ more. absurd (let z = ap (λ (ps : List Pair). length ps) same in omega arith)) c)

@@ -8,7 +8,7 @@
 --   partner ps k       the camera paired with k in ps, k itself where there is none
 --   isLit, litFits     the fits that p lights, in the order of the fits
 --   pairOf k w         camera k with its partner w, where that is the larger
---   pairsOf p ks       each camera of ks with its partner, where that is the larger
+--   pairsInOrder p ks       each camera of ks with its partner, where that is the larger
 use mathlib.Core.Path.{_≡_}
 use mathlib.Core.Logic.{_⊎_, _≢_}
 use mathlib.Core.Bool.{Bool}
@@ -57,6 +57,6 @@ litFits p fs = keep (isLit p) fs
 abbrev pub pairOf : (camera partner : ℕ) → List Pair
 pairOf k w = pick (ltb k w) (pair k w ∷ []) []
 
-unfoldable pub pairsOf : (partner : ℕ → ℕ) → (cameras : List ℕ) → List Pair
-pairsOf p [] = []
-pairsOf p (k ∷ ks) = pairOf k (p k) ++ pairsOf p ks
+unfoldable pub pairsInOrder : (partner : ℕ → ℕ) → (cameras : List ℕ) → List Pair
+pairsInOrder p [] = []
+pairsInOrder p (k ∷ ks) = pairOf k (p k) ++ pairsInOrder p ks
