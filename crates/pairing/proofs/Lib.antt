@@ -3,7 +3,11 @@
 --   Doubling     the doubled table, written arc by arc
 --   Following    a path followed by rotations
 --   Lighting     a row read from pairs, and its pairs in order
+--   Stores       a table filled from its front
+--   Improving    from the lit pairs to a plan, one search after the other
 pub mod Writing
 pub mod Doubling
 pub mod Following
 pub mod Lighting
+pub mod Stores
+pub mod Improving

@@ -1,60 +1,52 @@
 -- A row read from pairs, and its pairs written camera by camera. Assumes nothing.
---   own-more                                   one camera more is its own partner
 --   lit-none, lit-one                          no pair lit; one pair more, from the last to the first
 --   pairs-left-first, pairs-left-none, pairs-left-all      the next camera's pair; no camera left; all
 --   count-taken, count-left                    how many pairs are left, by the next camera
 --   pair-few                                   at most one pair for a camera
 use mathlib.Core.Path.{_≡_, sym, ap, _∙_}
-use mathlib.Core.Logic.{⊎-elim}
 use mathlib.Core.List.{List, [], _++_}
 use Prim.Native.Nat.{ℕ, _+_, _-_, _≤_, _<_}
 use native.Mathlib.Omega.{arith}
 use lib.Dec.{ltb}
-use lib.ListN.{length, getD, drop, set, length-append}
-use lib.Seq.{drop-length, getD-set-same, getD-set-other}
+use lib.ListN.{length, getD, drop, length-append}
+use lib.Seq.{drop-length}
 use borrow.Author.Tests.{lt-ltb, le-ltb}
 use Rattle.counting.specs.Tests.{below, upFrom}
-use Rattle.counting.specs.Pairs.{Pair, pair}
-use Rattle.counting.proofs.Booleans.{by-test, same-or}
+use Rattle.counting.specs.Pairs.{Pair, pair, zipPairs}
+use Rattle.counting.proofs.Booleans.{by-test}
 use Rattle.counting.proofs.Range.{up-cons, up-none}
-use Rattle.search.proofs.Tables.{arcs-length}
-use Rattle.matching.specs.Matching.{partner, pairOf, pairsOf}
+use Rattle.counting.proofs.Zips.{zip-length}
+use Rattle.matching.specs.Matching.{partner, pairOf, pairsInOrder}
 use Rattle.matching.specs.Row.{partnerIn, lightRow}
 use Rattle.matching.proofs.Rows.{row-partner, light-row}
-use Rattle.pairing.specs.Table.{pairsIn}
 use Rattle.pairing.specs.Row.{pairsLeft}
 use Rattle.pairing.proofs.Doubling.{pair-at}
 
-pub own-more : (row : List ℕ) (k : ℕ) → k < length row → ((j : ℕ) → j < k → getD row j 0 ≡ j) → (j : ℕ) → j < k + 1 → getD (set row k k) j 0 ≡ j
-own-more row k h own j l =
-    ⊎-elim (λ e. ap (λ (i : ℕ). getD (set row k k) i 0) e ∙ getD-set-same row k k 0 h ∙ sym e)
-    (λ e. getD-set-other row k j k 0 e ∙ own j (omega arith)) (same-or j k)
-
 -- LIT
-pub lit-none : (us vs : List ℕ) → partner (drop (length us) (pairsIn us vs)) ≡ partner []
-lit-none us vs = ap partner (ap (λ (m : ℕ). drop m (pairsIn us vs)) (sym (arcs-length us vs)) ∙ drop-length (pairsIn us vs))
+pub lit-none : (us vs : List ℕ) → length vs ≡ length us → partner (drop (length us) (zipPairs us vs)) ≡ partner []
+lit-none us vs e = ap partner (ap (λ (m : ℕ). drop m (zipPairs us vs)) (sym (zip-length us vs e)) ∙ drop-length (zipPairs us vs))
 
-pub lit-one : (row us vs : List ℕ) (i : ℕ) → i < length us → getD us i 0 < length row → getD vs i 0 < length row →
-    partnerIn row ≡ partner (drop (i + 1) (pairsIn us vs)) → partnerIn (lightRow row (getD us i 0) (getD vs i 0)) ≡ partner (drop i (pairsIn us vs))
-lit-one row us vs i h a b e =
-    light-row row (pair (getD us i 0) (getD vs i 0)) (drop (i + 1) (pairsIn us vs)) a b e ∙ ap partner (sym (pair-at us vs i h))
+pub lit-one : (row us vs : List ℕ) (i : ℕ) → length vs ≡ length us → i < length us → getD us i 0 < length row → getD vs i 0 < length row →
+    partnerIn row ≡ partner (drop (i + 1) (zipPairs us vs)) → partnerIn (lightRow row (getD us i 0) (getD vs i 0)) ≡ partner (drop i (zipPairs us vs))
+lit-one row us vs i l h a b e =
+    light-row row (pair (getD us i 0) (getD vs i 0)) (drop (i + 1) (zipPairs us vs)) a b e ∙ ap partner (sym (pair-at us vs i l h))
 
 -- IN ORDER
 pub pair-few : (k w : ℕ) → length (pairOf k w) ≤ 1
 pair-few k w = by-test (ltb k w) (λ t. rw t (omega arith)) (λ t. rw t (omega arith))
 
 pub pairs-left-first : (row : List ℕ) (k : ℕ) → k < length row → pairsLeft row k ≡ pairOf k (getD row k 0) ++ pairsLeft row (k + 1)
-unfolding pairsOf
+unfolding pairsInOrder
 pairs-left-first row k h =
-    ap (λ (l : List ℕ). pairsOf (partnerIn row) l) (up-cons k (length row) h) ∙
+    ap (λ (l : List ℕ). pairsInOrder (partnerIn row) l) (up-cons k (length row) h) ∙
     ap (λ (w : ℕ). pairOf k w ++ pairsLeft row (k + 1)) (row-partner row k h)
 
 pub pairs-left-none : (row : List ℕ) (k : ℕ) → length row ≤ k → pairsLeft row k ≡ []
-unfolding pairsOf
-pairs-left-none row k h = ap (λ (l : List ℕ). pairsOf (partnerIn row) l) (up-none k (length row) h)
+unfolding pairsInOrder
+pairs-left-none row k h = ap (λ (l : List ℕ). pairsInOrder (partnerIn row) l) (up-none k (length row) h)
 
-pub pairs-left-all : (row : List ℕ) → pairsLeft row 0 ≡ pairsOf (partnerIn row) (below (length row))
-pairs-left-all row = let e : length row - 0 ≡ length row = omega arith in ap (λ (m : ℕ). pairsOf (partnerIn row) (upFrom 0 m)) e
+pub pairs-left-all : (row : List ℕ) → pairsLeft row 0 ≡ pairsInOrder (partnerIn row) (below (length row))
+pairs-left-all row = let e : length row - 0 ≡ length row = omega arith in ap (λ (m : ℕ). pairsInOrder (partnerIn row) (upFrom 0 m)) e
 
 pub count-taken : (row : List ℕ) (k : ℕ) → k < length row → k < getD row k 0 → length (pairsLeft row k) ≡ 1 + length (pairsLeft row (k + 1))
 count-taken row k h l =

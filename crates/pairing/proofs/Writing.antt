@@ -10,24 +10,16 @@ use native.Mathlib.Numerals.{add-one}
 use native.Mathlib.Omega.{arith}
 use lib.ListN.{length, take, set, length-set, length-append}
 use lib.Seq.{take-suc-set, length-take-le}
-use Rattle.counting.specs.Pairs.{Pair, pair}
-use Rattle.search.specs.Table.{arcsOf}
-use Rattle.search.proofs.Tables.{arcs-length}
+use Rattle.counting.specs.Pairs.{Pair, pair, zipPairs}
+use Rattle.counting.proofs.Zips.{zip-length, zip-snoc}
 use Rattle.pairing.specs.Table.{written, Wrote, Writing, Listed}
-
-arcs-snoc : (ts hs : List ℕ) (a b : ℕ) → length hs ≡ length ts → arcsOf (ts ++ a ∷ []) (hs ++ b ∷ []) ≡ arcsOf ts hs ++ pair a b ∷ []
-unfolding arcsOf
-arcs-snoc [] [] a b e = refl
-arcs-snoc [] (h ∷ hs) a b e = absurd (omega arith)
-arcs-snoc (t ∷ ts) [] a b e = absurd (omega arith)
-arcs-snoc (t ∷ ts) (h ∷ hs) a b e = ap (λ (l : List Pair). pair t h ∷ l) (arcs-snoc ts hs a b (omega arith))
 
 pub put-one : (ts hs : List ℕ) (at a b : ℕ) → at < length ts → at < length hs → Wrote ts hs at (set ts at a) (set hs at b) (at + 1) (pair a b ∷ [])
 put-one ts hs at a b ht hh =
     let lt = length-take-le at ts (omega arith) in
     let lh = length-take-le at hs (omega arith) in
     record {
-      arcs = rw (add-one, take-suc-set ts at a ht, take-suc-set hs at b hh) (arcs-snoc (take at ts) (take at hs) a b (omega arith));
+      arcs = rw (add-one, take-suc-set ts at a ht, take-suc-set hs at b hh) (zip-snoc (take at ts) (take at hs) a b (omega arith));
       count = refl;
     }
 
@@ -53,8 +45,8 @@ wrote-as ts hs at ts′ hs′ r xs ys e W =
     record { arcs = W .arcs ∙ ap (λ (l : List Pair). written ts hs at ++ l) e; count = W .count ∙ ap (λ (l : List Pair). at + length l) e }
 
 -- THE LOOP'S STATE
-written-length : (ts hs : List ℕ) (at : ℕ) → at ≤ length ts → length (written ts hs at) ≡ at
-written-length ts hs at h = arcs-length (take at ts) (take at hs) ∙ length-take-le at ts h
+written-length : (ts hs : List ℕ) (at : ℕ) → at ≤ length ts → at ≤ length hs → length (written ts hs at) ≡ at
+written-length ts hs at h k = zip-length (take at ts) (take at hs) (length-take-le at hs k ∙ sym (length-take-le at ts h)) ∙ length-take-le at ts h
 
 pub writing-start : (ts hs : List ℕ) (at : ℕ) (left ys : List Pair) (most : ℕ) → left ≡ ys → at ≤ most →
     Writing ts hs at left (written ts hs at ++ ys) most
@@ -71,9 +63,9 @@ writing-more ts hs at left whole most ts′ hs′ r xs left′ most′ S W e l =
       bound = omega (arith, S .bound, W .count);
     }
 
-pub writing-done : (ts₀ hs₀ : List ℕ) (at₀ : ℕ) (ts hs : List ℕ) (at : ℕ) (left ys : List Pair) (most : ℕ) → at₀ ≤ length ts₀ → at ≤ length ts →
+pub writing-done : (ts₀ hs₀ : List ℕ) (at₀ : ℕ) (ts hs : List ℕ) (at : ℕ) (left ys : List Pair) (most : ℕ) → at₀ ≤ length ts₀ → at₀ ≤ length hs₀ → at ≤ length ts → at ≤ length hs →
     Writing ts hs at left (written ts₀ hs₀ at₀ ++ ys) most → left ≡ [] → Wrote ts₀ hs₀ at₀ ts hs at ys
-writing-done ts₀ hs₀ at₀ ts hs at left ys most h₀ h S e =
+writing-done ts₀ hs₀ at₀ ts hs at left ys most h₀ k₀ h k S e =
     let same : written ts hs at ≡ written ts₀ hs₀ at₀ ++ ys =
     sym (append-nil (written ts hs at)) ∙ ap (λ (z : List Pair). written ts hs at ++ z) (sym e) ∙ S .arcs in
     record {
@@ -81,13 +73,13 @@ writing-done ts₀ hs₀ at₀ ts hs at left ys most h₀ h S e =
       count =
           omega (
             arith,
-            written-length ts hs at h,
-            written-length ts₀ hs₀ at₀ h₀,
+            written-length ts hs at h k,
+            written-length ts₀ hs₀ at₀ h₀ k₀,
             length-append (written ts₀ hs₀ at₀) ys,
             ap (λ (z : List Pair). length z) same,
           );
     }
 
 pub listed : (us vs us₀ vs₀ : List ℕ) (at : ℕ) (xs : List Pair) → Wrote us₀ vs₀ 0 us vs at xs → Listed us vs at xs
-unfolding arcsOf
+unfolding zipPairs
 listed us vs us₀ vs₀ at xs W = record { pairs = W .arcs; count = W .count ∙ omega arith }

@@ -11,7 +11,7 @@ use Rattle.counting.specs.Tests.{upFrom}
 use Rattle.counting.specs.Pairs.{Pair}
 use Rattle.skew.specs.Graph.{Graph}
 use Rattle.search.specs.Table.{graphOf}
-use Rattle.matching.specs.Matching.{pairsOf}
+use Rattle.matching.specs.Matching.{pairsInOrder}
 use Rattle.matching.specs.Rotation.{rotateAlong, Rotates}
 use Rattle.matching.specs.Row.{partnerIn, rotateRow}
 
@@ -31,4 +31,4 @@ pub record Turn (ts hs path row₀ : List ℕ) (i : ℕ) (row : List ℕ) : Type
   pub next : Following ts hs path row₀ (i + 2) (rotateRow row (getD ts (getD path i 0) 0 / 2) (getD hs (getD path i 0) 0 / 2))
 
 abbrev pub pairsLeft : (row : List ℕ) → (camera : ℕ) → List Pair
-pairsLeft row k = pairsOf (partnerIn row) (upFrom k (length row - k))
+pairsLeft row k = pairsInOrder (partnerIn row) (upFrom k (length row - k))

@@ -1,5 +1,4 @@
 -- What the lent slices hold.
---   pairsIn us vs              pairs of cameras lent as two tables of bytes, the firsts and the seconds
 --   stockOf n us vs ls rs      the stock of n cameras with fits us, vs and lit pairs ls, rs
 --   PairTable n us vs          as many seconds as firsts, all cameras below n
 --   FitTable n us vs           what the questions put to a stock settle of its cameras and fits
@@ -14,19 +13,15 @@ use mathlib.Core.List.{List, [], _++_}
 use Prim.Native.Nat.{ℕ, suc, _+_, _-_, _*_, _≤_, _<_}
 use lib.ListN.{length, getD, take, drop}
 use Rattle.counting.specs.Tests.{upFrom}
-use Rattle.counting.specs.Pairs.{Pair}
-use Rattle.search.specs.Table.{arcsOf, graphOf}
+use Rattle.counting.specs.Pairs.{Pair, zipPairs, pairsOf}
+use Rattle.search.specs.Table.{graphOf}
 use Rattle.matching.specs.Stock.{Stock}
 use Rattle.matching.specs.Matching.{FitsBelow}
 use Rattle.matching.specs.Row.{partnerIn}
 use Rattle.matching.specs.DoubledTable.{cameraArcs, fitArcs, doubledTable}
 
--- read as the search reads arcs
-abbrev pub pairsIn : (firsts seconds : List ℕ) → List Pair
-pairsIn us vs = arcsOf us vs
-
 abbrev pub stockOf : (cameras : ℕ) → (firsts seconds litFirsts litSeconds : List ℕ) → Stock
-stockOf n us vs ls rs = record { cameras = n; fits = pairsIn us vs; lit = pairsIn ls rs }
+stockOf n us vs ls rs = record { cameras = n; fits = zipPairs us vs; lit = zipPairs ls rs }
 
 pub record PairTable (n : ℕ) (us vs : List ℕ) : Type 0 where
   pub as-long : length vs ≡ length us
@@ -37,10 +32,10 @@ pub record FitTable (n : ℕ) (us vs : List ℕ) : Type 0 where
   pub as-long : length vs ≡ length us
   pub cameras-few : n ≤ 127
   pub fits-few : length us ≤ 3900
-  pub fits : FitsBelow n (pairsIn us vs)
+  pub fits : FitsBelow n (zipPairs us vs)
 
 abbrev pub written : (tails heads : List ℕ) → (count : ℕ) → List Pair
-written ts hs at = arcsOf (take at ts) (take at hs)
+written ts hs at = pairsOf at ts hs
 
 pub record Wrote (ts hs : List ℕ) (at : ℕ) (ts′ hs′ : List ℕ) (r : ℕ) (xs : List Pair) : Type 0 where
   pub arcs : written ts′ hs′ r ≡ written ts hs at ++ xs
@@ -54,7 +49,7 @@ abbrev pub camerasLeft : (row : List ℕ) → (camera : ℕ) → List Pair
 camerasLeft row k = cameraArcs (length row) (partnerIn row) (upFrom k (length row - k)) []
 
 abbrev pub fitsLeft : (row firsts seconds : List ℕ) → (fit : ℕ) → List Pair
-fitsLeft row us vs i = fitArcs (partnerIn row) (drop i (pairsIn us vs))
+fitsLeft row us vs i = fitArcs (partnerIn row) (drop i (zipPairs us vs))
 
 pub record Listed (us vs : List ℕ) (r : ℕ) (xs : List Pair) : Type 0 where
   pub pairs : written us vs r ≡ xs

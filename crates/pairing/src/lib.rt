@@ -1,5 +1,7 @@
 // Largest pairings of cameras by augmenting paths. A pairing is a row of partners, one byte for each camera, its own number where it is unlit.
 //   row        rows read from pairs, rotated along a path, written as pairs
 //   table      the doubled table of a row
+//   marks      marks read off a table of reached nodes
+pub mod marks;
 pub mod row;
 pub mod table;

@@ -4,10 +4,11 @@ ghost use mathlib.Core.List.{[]};
 ghost use Prim.Native.Nat.{_<_, _≤_};
 ghost use lib.ListN.{length, getD, drop};
 ghost use Rattle.counting.specs.Tests.{below};
-ghost use Rattle.matching.specs.Matching.{partner, pairOf, pairsOf};
+ghost use Rattle.matching.specs.Matching.{partner, pairOf, pairsInOrder};
 ghost use Rattle.matching.specs.Rotation.{rotateAlong, Rotates};
 ghost use Rattle.matching.specs.Row.{partnerIn, rotateRow};
-ghost use Rattle.pairing.specs.Table.{pairsIn, PairTable, Wrote, Listed};
+ghost use Rattle.counting.specs.Pairs.{zipPairs};
+ghost use Rattle.pairing.specs.Table.{PairTable, Wrote, Listed};
 ghost use Rattle.pairing.specs.Row.{tableGraph};
 
 // u, which is unlit, is lit with v; v's old partner becomes unlit.
@@ -53,7 +54,7 @@ fn unlight(row: &mut [u8])
 fn light(row: &mut [u8], us: &[u8], vs: &[u8])
     requires { ⌜ PairTable (length (now row)) (now us) (now vs) ⌝ }
     requires { ⌜ partnerIn (now row) ≡ partner [] ⌝ }
-    ensures { λ r. ⌜ partnerIn (now (row .exit)) ≡ partner (pairsIn (now (us .entry)) (now (vs .entry))) ⌝ }
+    ensures { λ r. ⌜ partnerIn (now (row .exit)) ≡ partner (zipPairs (now (us .entry)) (now (vs .entry))) ⌝ }
 {
     let mut i = us.len();
     while 0 < i {
@@ -69,7 +70,7 @@ fn light(row: &mut [u8], us: &[u8], vs: &[u8])
 pub fn row_of(row: &mut [u8], us: &[u8], vs: &[u8])
     requires { ⌜ length (now row) ≤ 127 ⌝ }
     requires { ⌜ PairTable (length (now row)) (now us) (now vs) ⌝ }
-    ensures { λ r. ⌜ partnerIn (now (row .exit)) ≡ partner (pairsIn (now (us .entry)) (now (vs .entry))) ⌝ }
+    ensures { λ r. ⌜ partnerIn (now (row .exit)) ≡ partner (zipPairs (now (us .entry)) (now (vs .entry))) ⌝ }
 {
     unlight(row);
     light(row, us, vs);
@@ -94,7 +95,7 @@ pub fn pairs_of(row: &[u8], us: &mut [u8], vs: &mut [u8]) -> usize
     requires { ⌜ length (now row) ≤ 127 ⌝ }
     requires { ⌜ length (now row) ≤ length (now us) ⌝ }
     requires { ⌜ length (now row) ≤ length (now vs) ⌝ }
-    ensures { λ r. ⌜ Listed (now (us .exit)) (now (vs .exit)) r (pairsOf (partnerIn (now (row .entry))) (below (length (now (row .entry))))) ⌝ }
+    ensures { λ r. ⌜ Listed (now (us .exit)) (now (vs .exit)) r (pairsInOrder (partnerIn (now (row .entry))) (below (length (now (row .entry))))) ⌝ }
 {
     let mut at: usize = 0;
     let mut k: usize = 0;
@@ -108,7 +109,7 @@ pub fn pairs_of(row: &[u8], us: &mut [u8], vs: &mut [u8]) -> usize
 // How many pairs a row has.
 pub fn pair_count(row: &[u8]) -> usize
     requires { ⌜ length (now row) ≤ 127 ⌝ }
-    ensures { λ r. ⌜ r ≡ length (pairsOf (partnerIn (now (row .entry))) (below (length (now (row .entry))))) ⌝ }
+    ensures { λ r. ⌜ r ≡ length (pairsInOrder (partnerIn (now (row .entry))) (below (length (now (row .entry))))) ⌝ }
 {
     let mut count: usize = 0;
     let mut k: usize = 0;

@@ -3,11 +3,11 @@ ghost use mathlib.Core.List.{[], _∷_};
 ghost use Prim.Native.Nat.{ℕ, _+_, _*_, _<_, _≤_};
 ghost use lib.ListN.{length, getD};
 ghost use Rattle.counting.specs.Tests.{below};
-ghost use Rattle.counting.specs.Pairs.{pair};
+ghost use Rattle.counting.specs.Pairs.{pair, zipPairs};
 ghost use Rattle.matching.specs.Matching.{Matching};
 ghost use Rattle.matching.specs.Row.{partnerIn};
 ghost use Rattle.matching.specs.DoubledTable.{arcsOfCamera, cameraArcs, arcsOfFit, fitArcs};
-ghost use Rattle.pairing.specs.Table.{pairsIn, FitTable, Wrote, Doubled};
+ghost use Rattle.pairing.specs.Table.{FitTable, Wrote, Doubled};
 
 // An arc and its mate, at `at`.
 fn put(tails: &mut [u8], heads: &mut [u8], at: usize, a: u8, b: u8, c: u8, d: u8) -> usize
@@ -84,7 +84,7 @@ fn put_fits(
     requires { ⌜ FitTable (length (now row)) (now us) (now vs) ⌝ }
     requires { ⌜ first + 2 * length (now us) ≤ length (now tails) ⌝ }
     requires { ⌜ first + 2 * length (now us) ≤ length (now heads) ⌝ }
-    ensures { λ r. ⌜ Wrote (now (tails .entry)) (now (heads .entry)) first (now (tails .exit)) (now (heads .exit)) r (fitArcs (partnerIn (now (row .entry))) (pairsIn (now (us .entry)) (now (vs .entry)))) ⌝ }
+    ensures { λ r. ⌜ Wrote (now (tails .entry)) (now (heads .entry)) first (now (tails .exit)) (now (heads .exit)) r (fitArcs (partnerIn (now (row .entry))) (zipPairs (now (us .entry)) (now (vs .entry)))) ⌝ }
 {
     let mut at = first;
     let mut i: usize = 0;
@@ -99,10 +99,10 @@ fn put_fits(
 // The doubled table of the row: how many arcs, in the front of tails and heads.
 pub fn table(row: &[u8], us: &[u8], vs: &[u8], tails: &mut [u8], heads: &mut [u8]) -> usize
     requires { ⌜ FitTable (length (now row)) (now us) (now vs) ⌝ }
-    requires { ⌜ Matching (pairsIn (now us) (now vs)) (partnerIn (now row)) ⌝ }
+    requires { ⌜ Matching (zipPairs (now us) (now vs)) (partnerIn (now row)) ⌝ }
     requires { ⌜ 8192 ≤ length (now tails) ⌝ }
     requires { ⌜ 8192 ≤ length (now heads) ⌝ }
-    ensures { λ r. ⌜ Doubled (now (row .entry)) (pairsIn (now (us .entry)) (now (vs .entry))) (now (tails .exit)) (now (heads .exit)) r ⌝ }
+    ensures { λ r. ⌜ Doubled (now (row .entry)) (zipPairs (now (us .entry)) (now (vs .entry))) (now (tails .exit)) (now (heads .exit)) r ⌝ }
 {
     let first = put_cameras(row, tails, heads);
     put_fits(row, us, vs, tails, heads, first)

@@ -5,22 +5,23 @@ use native.Mathlib.Omega.{arith}
 use lib.ListN.{length, getD, drop, length-set}
 use denote.Ref.{now}
 use borrow.Author.Needs.{needs}
+use Rattle.counting.specs.Pairs.{zipPairs}
 use Rattle.matching.specs.Matching.{partner}
 use Rattle.matching.specs.Row.{partnerIn}
 use Rattle.matching.proofs.Rows.{length-light}
-use Rattle.pairing.specs.Table.{pairsIn}
 use Rattle.pairing.proofs.Lighting.{lit-none, lit-one}
 use Rattle.pairing.proofs.row.light.Statement.{statement}
 use Rattle.pairing.proofs.row.light.Tie as tie
 
 abbrev Inv-loop : tie.InvT-loop
-Inv-loop row₀ us vs i₀ row i = (i ≤ length us) × (length row ≡ length row₀) × (partnerIn row ≡ partner (drop i (pairsIn us vs)))
+Inv-loop row₀ us vs i₀ row i = (i ≤ length us) × (length row ≡ length row₀) × (partnerIn row ≡ partner (drop i (zipPairs us vs)))
 
 abbrev μ-loop : tie.MeasureT-loop
 μ-loop row₀ us vs i₀ row i = i
 
 loop-holds : tie.Need-loop-holds Inv-loop μ-loop
-loop-holds c = (omega arith, refl, c .pre .1 ∙ sym (lit-none (now (c .args .us)) (now (c .args .vs))))
+loop-holds c =
+    (omega arith, refl, c .pre .1 ∙ sym (lit-none (now (c .args .us)) (now (c .args .vs)) (c .pre .0 .as-long)))
 
 sub-i : tie.Need-sub-i Inv-loop μ-loop
 sub-i c = search needs
@@ -62,7 +63,7 @@ loop-again c =
     let e : i + 1 ≡ l .i = omega arith in (
       omega arith,
       length-light (l .row) (getD us i 0) (getD vs i 0) ∙ l .inv .1,
-      lit-one (l .row) us vs i (omega arith) (omega (arith, l .inv .1)) (omega (arith, l .inv .1)) (l .inv .2 ∙ ap (λ (m : ℕ). partner (drop m (pairsIn us vs))) (sym e)),
+      lit-one (l .row) us vs i (S .pre .0 .as-long) (omega arith) (omega (arith, l .inv .1)) (omega (arith, l .inv .1)) (l .inv .2 ∙ ap (λ (m : ℕ). partner (drop m (zipPairs us vs))) (sym e)),
     )
 
 same-length : tie.Need-same-length Inv-loop μ-loop
@@ -72,7 +73,7 @@ returns : tie.Need-returns Inv-loop μ-loop
 returns c =
     let l = c .before .loop in
     let e : l .i ≡ 0 = omega arith in
-    l .inv .2 ∙ ap (λ (m : ℕ). partner (drop m (pairsIn (now (c .before .before .args .us)) (now (c .before .before .args .vs))))) e
+    l .inv .2 ∙ ap (λ (m : ℕ). partner (drop m (zipPairs (now (c .before .before .args .us)) (now (c .before .before .args .vs))))) e
 
 pub light-spec : {M : Type 1} → statement M
 light-spec =

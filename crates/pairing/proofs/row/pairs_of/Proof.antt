@@ -7,7 +7,7 @@ use lib.ListN.{length, getD}
 use denote.Ref.{now}
 use borrow.Author.Needs.{needs}
 use Rattle.counting.specs.Tests.{below}
-use Rattle.matching.specs.Matching.{pairOf, pairsOf}
+use Rattle.matching.specs.Matching.{pairOf, pairsInOrder}
 use Rattle.matching.specs.Row.{partnerIn}
 use Rattle.pairing.specs.Table.{written, Writing}
 use Rattle.pairing.specs.Row.{pairsLeft}
@@ -18,7 +18,7 @@ use Rattle.pairing.proofs.row.pairs_of.Tie as tie
 
 abbrev Inv-loop : tie.InvT-loop
 Inv-loop row us₀ vs₀ at₀ k₀ us vs at k =
-    (k ≤ length row) × (length us ≡ length us₀) × (length vs ≡ length vs₀) × Writing us vs at (pairsLeft row k) (written us₀ vs₀ 0 ++ pairsOf (partnerIn row) (below (length row))) k
+    (k ≤ length row) × (length us ≡ length us₀) × (length vs ≡ length vs₀) × Writing us vs at (pairsLeft row k) (written us₀ vs₀ 0 ++ pairsInOrder (partnerIn row) (below (length row))) k
 
 abbrev μ-loop : tie.MeasureT-loop
 μ-loop row us₀ vs₀ at₀ k₀ us vs at k = length row - k
@@ -68,8 +68,8 @@ returns c =
     let a = c .before .before .before .before .before .args in
     let l = c .before .loop in
     let row = now (a .row) in
-    listed _ _ (now (a .us)) (now (a .vs)) _ _ (writing-done (now (a .us)) (now (a .vs)) 0 _ _ _ (pairsLeft row (l .k)) _ (l .k) (omega arith)
-    (omega (arith, l .inv .3 .bound, l .inv .1, c .before .before .before .before .before .pre .1 .0)) (l .inv .3) (pairs-left-none row (l .k) (omega arith)))
+    listed _ _ (now (a .us)) (now (a .vs)) _ _ (writing-done (now (a .us)) (now (a .vs)) 0 _ _ _ (pairsLeft row (l .k)) _ (l .k) (omega arith) (omega arith)
+    (omega (arith, l .inv .3 .bound, l .inv .1, c .before .before .before .before .before .pre .1 .0)) (omega (arith, l .inv .3 .bound, l .inv .2, c .before .before .before .before .before .pre .1 .1)) (l .inv .3) (pairs-left-none row (l .k) (omega arith)))
 
 pub pairs-of-spec : {M : Type 1} → statement M
 pairs-of-spec =

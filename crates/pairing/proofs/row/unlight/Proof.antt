@@ -5,7 +5,7 @@ use native.Mathlib.Omega.{arith}
 use lib.ListN.{length, getD, length-set}
 use borrow.Author.Needs.{needs}
 use Rattle.matching.proofs.Rows.{own-row}
-use Rattle.pairing.proofs.Lighting.{own-more}
+use Rattle.pairing.proofs.Stores.{filled-more}
 use Rattle.pairing.proofs.row.unlight.Statement.{statement}
 use Rattle.pairing.proofs.row.unlight.Tie as tie
 
@@ -33,7 +33,7 @@ loop-less c = omega (arith, length-set (c .before .loop .row) (c .before .loop .
 loop-again : tie.Need-loop-again Inv-loop μ-loop
 loop-again c =
     let l = c .before .loop in
-    (omega (arith, length-set (l .row) (l .k) (l .k)), length-set (l .row) (l .k) (l .k) ∙ l .inv .1, own-more (l .row) (l .k) (omega arith) (l .inv .2))
+    (omega (arith, length-set (l .row) (l .k) (l .k)), length-set (l .row) (l .k) (l .k) ∙ l .inv .1, filled-more (λ (j : ℕ). j) (l .row) (l .k) (l .k) (omega arith) (l .inv .2) refl)
 
 same-length : tie.Need-same-length Inv-loop μ-loop
 same-length c = c .before .loop .inv .1

@@ -71,7 +71,7 @@ returns c =
     let a = c .before .before .before .before .before .args in
     let l = c .before .loop in
     let row = now (a .row) in
-    writing-done (now (a .tails)) (now (a .heads)) 0 _ _ _ (camerasLeft row (l .k)) _ (2 * l .k) (omega arith) (omega (arith, l .inv .3 .bound, l .inv .1)) (l .inv .3)
+    writing-done (now (a .tails)) (now (a .heads)) 0 _ _ _ (camerasLeft row (l .k)) _ (2 * l .k) (omega arith) (omega arith) (omega (arith, l .inv .3 .bound, l .inv .1)) (omega (arith, l .inv .3 .bound, l .inv .2)) (l .inv .3)
     (cameras-left-none row (l .k) (omega arith))
 
 pub put-cameras-spec : {M : Type 1} → statement M

@@ -6,10 +6,11 @@ use native.Mathlib.Omega.{arith}
 use lib.ListN.{length, getD}
 use denote.Ref.{now}
 use borrow.Author.Needs.{needs}
+use Rattle.counting.specs.Pairs.{zipPairs}
 use Rattle.matching.specs.DoubledTable.{arcsOfFit, fitArcs}
 use Rattle.matching.specs.Row.{partnerIn}
 use Rattle.matching.proofs.DoubledTable.{fit-arcs-few}
-use Rattle.pairing.specs.Table.{pairsIn, written, Writing, fitsLeft}
+use Rattle.pairing.specs.Table.{written, Writing, fitsLeft}
 use Rattle.pairing.proofs.Writing.{writing-start, writing-more, writing-done}
 use Rattle.pairing.proofs.Doubling.{fit-first, fit-second, fits-left-first, fits-left-none}
 use Rattle.pairing.proofs.table.put_fits.Statement.{statement}
@@ -17,7 +18,7 @@ use Rattle.pairing.proofs.table.put_fits.Tie as tie
 
 abbrev Inv-loop : tie.InvT-loop
 Inv-loop row us vs tails₀ heads₀ first at₀ i₀ tails heads at i =
-    (i ≤ length us) × (length tails ≡ length tails₀) × (length heads ≡ length heads₀) × Writing tails heads at (fitsLeft row us vs i) (written tails₀ heads₀ first ++ fitArcs (partnerIn row) (pairsIn us vs)) (first + 2 * i)
+    (i ≤ length us) × (length tails ≡ length tails₀) × (length heads ≡ length heads₀) × Writing tails heads at (fitsLeft row us vs i) (written tails₀ heads₀ first ++ fitArcs (partnerIn row) (zipPairs us vs)) (first + 2 * i)
 
 abbrev μ-loop : tie.MeasureT-loop
 μ-loop row us vs tails₀ heads₀ first at₀ i₀ tails heads at i = length us - i
@@ -75,7 +76,7 @@ loop-again c =
       r .kept .1 .1 .1 .0 ∙ l .inv .1,
       r .kept .1 .1 .1 .1 .0 ∙ l .inv .2,
       writing-more _ _ _ _ _ (a .first + 2 * l .i) _ _ _ (arcsOfFit u (getD vs (l .i) 0) w) (fitsLeft row us vs (l .i + 1)) (a .first + 2 * (l .i + 1)) (l .inv .3) (r .ensures)
-          (fits-left-first row us vs (l .i) (omega arith) (omega arith)) (omega (arith, fit-arcs-few u (getD vs (l .i) 0) w)),
+          (fits-left-first row us vs (l .i) (S .pre .0 .as-long) (omega arith) (omega arith)) (omega (arith, fit-arcs-few u (getD vs (l .i) 0) w)),
     )
 
 same-length : tie.Need-same-length Inv-loop μ-loop
@@ -90,7 +91,7 @@ returns c =
     let a = S .args in
     let l = c .before .loop in
     writing-done (now (a .tails)) (now (a .heads)) (a .first) _ _ _ (fitsLeft (now (a .row)) (now (a .us)) (now (a .vs)) (l .i)) _ (a .first + 2 * l .i)
-    (omega (arith, S .pre .1 .0)) (omega (arith, l .inv .3 .bound, l .inv .1, S .pre .1 .0)) (l .inv .3) (fits-left-none (now (a .row)) (now (a .us)) (now (a .vs)) (l .i) (omega arith))
+    (omega (arith, S .pre .1 .0)) (omega (arith, S .pre .1 .1)) (omega (arith, l .inv .3 .bound, l .inv .1, S .pre .1 .0)) (omega (arith, l .inv .3 .bound, l .inv .2, S .pre .1 .1)) (l .inv .3) (fits-left-none (now (a .row)) (now (a .us)) (now (a .vs)) (l .i) (S .pre .0 .as-long) (omega arith))
 
 pub put-fits-spec : {M : Type 1} → statement M
 put-fits-spec =

@@ -1,0 +1,33 @@
+// Marks read off a table of reached nodes (document 01, "Stocks"; the table is that of a doubled table without a path).
+ghost use mathlib.Core.Path.{_≡_};
+ghost use Prim.Native.Nat.{_≤_};
+ghost use lib.Dec.{ltb};
+ghost use lib.ListN.{length};
+ghost use Rattle.counting.specs.Tests.{pick, below};
+ghost use Rattle.matching.specs.DoubledTable.{marksBy};
+ghost use Rattle.pairing.specs.Plan.{reachedIn};
+
+// The mark of a camera whose two nodes carry these numbers, 0 where they are not reached.
+fn mark_of(outer: usize, inner: usize) -> u8
+    ensures { λ r. ⌜ r ≡ pick (ltb 0 outer) 0 (pick (ltb 0 inner) 1 2) ⌝ }
+{
+    if 0 < outer {
+        return 0;
+    }
+    if 0 < inner {
+        return 1;
+    }
+    2
+}
+
+// The mark of each camera.
+pub fn marks_of(reached: &[usize; 256], marks: &mut [u8])
+    requires { ⌜ length (now marks) ≤ 127 ⌝ }
+    ensures { λ r. ⌜ now (marks .exit) ≡ marksBy (reachedIn (now (reached .entry))) (below (length (now (marks .entry)))) ⌝ }
+{
+    let mut k: usize = 0;
+    while k < marks.len() {
+        marks[k] = mark_of(reached[2 * k], reached[2 * k + 1]);
+        k += 1;
+    }
+}
