@@ -10,6 +10,7 @@
 --   Promises         the promises, kept for every file
 --   Bodies           body lines counted
 --   GraphFiles       the questions of a graph file
+--   StockFiles       the questions of a stock file
 pub mod Marked
 pub mod Scans
 pub mod Tables
@@ -21,3 +22,4 @@ pub mod SheetBytes
 pub mod Promises
 pub mod Bodies
 pub mod GraphFiles
+pub mod StockFiles

@@ -8,6 +8,7 @@ use Prim.Native.Nat.{ℕ}
 use Rattle.counting.specs.Pairs.{pairsOf}
 use Rattle.lanes.specs.Tables.{Holds}
 use Rattle.lanes.specs.GraphFile.{graphIn, graphFault}
+use Rattle.lanes.specs.StockFile.{stockIn, stockFault}
 
 pub record GraphHeld (f tails heads : List ℕ) (pairs source arcs : ℕ) : Type 0 where
   pub pairsAre : pairs ≡ graphIn f .pairs
@@ -18,3 +19,14 @@ pub record GraphHeld (f tails heads : List ℕ) (pairs source arcs : ℕ) : Type
 pub record GraphRead (f tails heads : List ℕ) (number pairs source arcs : ℕ) : Type 0 where
   pub says : number ≡ graphFault f
   pub held : number ≡ 0 → GraphHeld f tails heads pairs source arcs
+
+pub record StockHeld (f firsts seconds ones others : List ℕ) (cameras fits lit : ℕ) : Type 0 where
+  pub camerasAre : cameras ≡ stockIn f .cameras
+  pub fitsRoom : Holds fits firsts seconds
+  pub fitsAre : pairsOf fits firsts seconds ≡ stockIn f .fits
+  pub litRoom : Holds lit ones others
+  pub litAre : pairsOf lit ones others ≡ stockIn f .lit
+
+pub record StockRead (f firsts seconds ones others : List ℕ) (number cameras fits lit : ℕ) : Type 0 where
+  pub says : number ≡ stockFault f
+  pub held : number ≡ 0 → StockHeld f firsts seconds ones others cameras fits lit

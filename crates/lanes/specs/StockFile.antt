@@ -2,6 +2,7 @@
 -- are document 03's). Assumes nothing: these are definitions.
 --   headerFits               question 5: at most 127 cameras
 --   stockIn                  the stock that a file's frames say
+--   pairsFault               questions 9 and 11 to 14, of the pairs alone
 --   stockFault               questions 2 to 9 and 11 to 14: the number of the first answered no, 0 where there is none
 --   markLines, sheetText     the standing sheet, from the cameras and the fits alone
 --   planLines, planText      a plan
@@ -22,6 +23,13 @@ headerFits f = leb (hexAt 2 2 (firstLine f)) 127
 abbrev pub stockIn : (file : List ℕ) → Stock
 stockIn f =
     record { cameras = hexAt 2 2 (firstLine f); fits = pairsIn 18 (bodyLines f); lit = pairsIn 19 (bodyLines f) }
+
+-- 9 and 11 to 14, of fits and lit pairs
+abbrev pub pairsFault : (cameras : ℕ) → (fits lit : List Pair) → ℕ
+pairsFault n fs ls =
+    orElse (unless (all (pairNamed n) fs && all (pairNamed n) ls) 9)
+    (orElse (unless (pairsRise fs) 11)
+    (orElse (unless (pairsRise ls) 12) (orElse (unless (all (hasPair fs) ls) 13) (unless (noneShared ls) 14))))
 
 abbrev pub stockFault : (file : List ℕ) → ℕ
 stockFault f =

@@ -2,11 +2,13 @@
 //   questions    questions 9 to 14, over the numbers of a file
 //   answers      answers written into a lent buffer
 //   graphs       graph files read
+//   stocks       stock files read
 //   counts       the tally, counted up
 pub mod answers;
 pub mod counts;
 pub mod graphs;
 pub mod questions;
+pub mod stocks;
 
 // Counts of what the calls answered (document 01, "Questions put to a call"); a count at its largest stays there.
 pub struct Tally {
