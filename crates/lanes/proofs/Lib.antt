@@ -11,6 +11,7 @@
 --   Bodies           body lines counted
 --   GraphFiles       the questions of a graph file
 --   StockFiles       the questions of a stock file
+--   CertificateFiles the questions of a certificate
 pub mod Marked
 pub mod Scans
 pub mod Tables
@@ -23,3 +24,4 @@ pub mod Promises
 pub mod Bodies
 pub mod GraphFiles
 pub mod StockFiles
+pub mod CertificateFiles

@@ -6,6 +6,7 @@
 --   Entry              what each call answers and leaves: result, buffer and tally
 --   Answers            answers as they are written line by line
 --   Readers            what reading a file answers, and holds in lent slices
+--   CertificateReaders the same of a certificate
 --   Promise            what is promised of every file: demands 2 and 3, and the marked set
 pub mod Tables
 pub mod GraphFile
@@ -14,4 +15,5 @@ pub mod CertificateFile
 pub mod Entry
 pub mod Answers
 pub mod Readers
+pub mod CertificateReaders
 pub mod Promise

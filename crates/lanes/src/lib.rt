@@ -3,8 +3,10 @@
 //   answers      answers written into a lent buffer
 //   graphs       graph files read
 //   stocks       stock files read
+//   certificates paths and barriers read
 //   counts       the tally, counted up
 pub mod answers;
+pub mod certificates;
 pub mod counts;
 pub mod graphs;
 pub mod questions;
