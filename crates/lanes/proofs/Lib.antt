@@ -12,6 +12,8 @@
 --   GraphFiles       the questions of a graph file
 --   StockFiles       the questions of a stock file
 --   CertificateFiles the questions of a certificate
+--   ArcTables        a graph that was read, as the search takes it
+--   Verdicts         the check's answer
 pub mod Marked
 pub mod Scans
 pub mod Tables
@@ -25,3 +27,5 @@ pub mod Bodies
 pub mod GraphFiles
 pub mod StockFiles
 pub mod CertificateFiles
+pub mod ArcTables
+pub mod Verdicts

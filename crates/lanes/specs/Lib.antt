@@ -7,6 +7,7 @@
 --   Answers            answers as they are written line by line
 --   Readers            what reading a file answers, and holds in lent slices
 --   CertificateReaders the same of a certificate
+--   Verdicts           the check's answer, part by part
 --   Promise            what is promised of every file: demands 2 and 3, and the marked set
 pub mod Tables
 pub mod GraphFile
@@ -16,4 +17,5 @@ pub mod Entry
 pub mod Answers
 pub mod Readers
 pub mod CertificateReaders
+pub mod Verdicts
 pub mod Promise

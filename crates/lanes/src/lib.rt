@@ -4,9 +4,11 @@
 //   graphs       graph files read
 //   stocks       stock files read
 //   certificates paths and barriers read
+//   check        the call that checks a certificate
 //   counts       the tally, counted up
 pub mod answers;
 pub mod certificates;
+pub mod check;
 pub mod counts;
 pub mod graphs;
 pub mod questions;

@@ -1,0 +1,65 @@
+-- `lanes::check::judge_barrier` meets its contract: a barrier refused, or judged by its stored classes. Assumes nothing.
+use mathlib.Core.Path.{refl, ap, sym, _∙_}
+use mathlib.Core.Bool.{Bool}
+use lib.Seq.{length-take-le}
+use Rattle.counting.specs.Tests.{pick}
+use Rattle.search.specs.Table.{graphOf}
+use Rattle.lanes.specs.declared.Verdict.the-variants.{Yes, No}
+use Rattle.lanes.proofs.Verdicts.{barrier-refused, barrier-judged}
+use borrow.Author.Needs.{needs}
+use Rattle.lanes.proofs.check.judge_barrier.Statement.{statement}
+use Rattle.lanes.proofs.check.judge_barrier.Tie as tie
+
+slice-aggregate-read-barrier : tie.Need-slice-aggregate-read-barrier
+slice-aggregate-read-barrier c = search needs
+
+slice-aggregate-read-barrier-2 : tie.Need-slice-aggregate-read-barrier-2
+slice-aggregate-read-barrier-2 c = search needs
+
+mul-read-barrier : tie.Need-mul-read-barrier
+mul-read-barrier c = search needs
+
+read-barrier-requires : tie.Need-read-barrier-requires
+read-barrier-requires c κs = search needs
+
+refused-requires : tie.Need-refused-requires
+refused-requires c κs = search needs
+
+returns : tie.Need-returns
+returns c =
+    let a = c .before .before .before .before .before .before .before .before .before .before .args in
+    barrier-refused (graphOf (a .pairs) (a .source) (a .tails .now) (a .heads .now)) refl (c .before .before .before .before .read-barrier .ensures) (c .before .if1 .taken) (c .refused .ensures)
+
+array-share-prefix-classes : tie.Need-array-share-prefix-classes
+array-share-prefix-classes c = c .before .before .before .read-barrier .ensures .held (c .if1 .left) .room
+
+slice-aggregate-is-barrier : tie.Need-slice-aggregate-is-barrier
+slice-aggregate-is-barrier c =
+    sym (length-take-le _ _ (c .before .before .before .before .read-barrier .ensures .held (c .before .if1 .left) .room))
+
+is-barrier-requires : tie.Need-is-barrier-requires
+is-barrier-requires c κs = search needs
+
+judged-requires : tie.Need-judged-requires
+judged-requires c κs = search needs
+
+returns-2 : tie.Need-returns-2
+returns-2 c =
+    let a = c .before .before .before .before .before .before .before .before .before .before .before .before .args in
+    barrier-judged (graphOf (a .pairs) (a .source) (a .tails .now) (a .heads .now)) refl (c .before .before .before .before .before .before .read-barrier .ensures) (c .before .before .before .if1 .left) (c .judged .ensures ∙ ap (λ (z : Bool). pick z Yes No) (c .before .is-barrier .ensures))
+
+pub judge-barrier-spec : {M : Type 1} → statement M
+judge-barrier-spec =
+    tie.close
+    (tie.spec
+    slice-aggregate-read-barrier
+    slice-aggregate-read-barrier-2
+    mul-read-barrier
+    read-barrier-requires
+    refused-requires
+    returns
+    array-share-prefix-classes
+    slice-aggregate-is-barrier
+    is-barrier-requires
+    judged-requires
+    returns-2)

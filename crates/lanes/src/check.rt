@@ -1,0 +1,84 @@
+// The check (document 01, "Questions put to a call"): the graph's questions first, then the certificate's with 40 added, then whether it holds.
+use crate::Verdict;
+use crate::certificates::read_barrier;
+use crate::certificates::read_path;
+use crate::graphs::read_graph;
+use frames::write::begins_barrier;
+use search::barrier::is_barrier;
+use search::path::is_wanted;
+ghost use mathlib.Core.Path.{_≡_};
+ghost use Prim.Native.Nat.{_+_, _≤_};
+ghost use Rattle.counting.specs.Tests.{pick};
+ghost use Rattle.search.specs.Table.{graphOf, ArcTable};
+ghost use Rattle.lanes.specs.Entry.{checkPost};
+ghost use Rattle.lanes.specs.Verdicts.{pathVerdict, barrierVerdict, certVerdict};
+ghost use Rattle.lanes.specs.declared.Verdict.the-variants.{Refused, Yes, No};
+
+// A question of the certificate answered no.
+fn refused(number: u8) -> Verdict
+    requires { ⌜ number ≤ 9 ⌝ }
+    ensures { λ r. ⌜ r ≡ Refused (40 + number) ⌝ }
+{
+    Verdict::Refused(40 + number)
+}
+
+// Past the questions.
+fn judged(holds: bool) -> Verdict
+    ensures { λ r. ⌜ r ≡ pick holds Yes No ⌝ }
+{
+    if holds { Verdict::Yes } else { Verdict::No }
+}
+
+fn judge_path(cert: &[u8], pairs: usize, source: usize, tails: &[u8], heads: &[u8]) -> Verdict
+    requires { ⌜ ArcTable pairs source (now tails) (now heads) ⌝ }
+    ensures { λ r. ⌜ r ≡ pathVerdict (graphOf pairs source (now (tails .entry)) (now (heads .entry))) (now (cert .entry)) ⌝ }
+{
+    let mut arcs = [0u16; 255];
+    let path = read_path(cert, &mut arcs, tails.len());
+    let number = path.number;
+    if number != 0 {
+        return refused(number);
+    }
+    let count = path.count;
+    judged(is_wanted(pairs, source, tails, heads, &arcs[..count]))
+}
+
+fn judge_barrier(cert: &[u8], pairs: usize, source: usize, tails: &[u8], heads: &[u8]) -> Verdict
+    requires { ⌜ ArcTable pairs source (now tails) (now heads) ⌝ }
+    ensures { λ r. ⌜ r ≡ barrierVerdict (graphOf pairs source (now (tails .entry)) (now (heads .entry))) (now (cert .entry)) ⌝ }
+{
+    let mut nodes = [0u8; 256];
+    let mut classes = [0u8; 256];
+    let barrier = read_barrier(cert, &mut nodes, &mut classes, 2 * pairs);
+    let number = barrier.number;
+    if number != 0 {
+        return refused(number);
+    }
+    let count = barrier.count;
+    judged(is_barrier(pairs, source, tails, heads, &classes[..count]))
+}
+
+// A file that begins with the line 31 is read as a barrier, any other as a path.
+fn judge(cert: &[u8], pairs: usize, source: usize, tails: &[u8], heads: &[u8]) -> Verdict
+    requires { ⌜ ArcTable pairs source (now tails) (now heads) ⌝ }
+    ensures { λ r. ⌜ r ≡ certVerdict (graphOf pairs source (now (tails .entry)) (now (heads .entry))) (now (cert .entry)) ⌝ }
+{
+    if begins_barrier(cert) {
+        return judge_barrier(cert, pairs, source, tails, heads);
+    }
+    judge_path(cert, pairs, source, tails, heads)
+}
+
+pub fn check(graph: &[u8], cert: &[u8]) -> Verdict
+    ensures { λ r. ⌜ r ≡ checkPost (now (graph .entry)) (now (cert .entry)) ⌝ }
+{
+    let mut tails = [0u8; 8192];
+    let mut heads = [0u8; 8192];
+    let g = read_graph(graph, &mut tails, &mut heads);
+    let number = g.number;
+    if number != 0 {
+        return Verdict::Refused(number);
+    }
+    let arcs = g.arcs;
+    judge(cert, g.pairs, g.source, &tails[..arcs], &heads[..arcs])
+}
