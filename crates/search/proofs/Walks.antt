@@ -1,7 +1,8 @@
 -- A run of arcs judged arc by arc. Assumes nothing.
 --   wanted-from                    isWanted, arc by arc from the source
 --   marks-none, marks-more         tables of marks: empty, and with one number more
---   walking-start, -next, -end     the loop that judges
+--   walking-start, -next           the loop that judges
+--   walking-there, -elsewhere      no arc is left: at the source's mate, or at another node
 --   walking-apart, -seen, -used    an arc that starts elsewhere than the last one ended, leads to a node seen, has its mate used
 use mathlib.Core.Path.{_≡_, refl, sym, _∙_}
 use mathlib.Core.Logic.{_≢_, ⊎-elim}
@@ -90,9 +91,17 @@ module _ (n s : ℕ) (ts hs path : List ℕ) (k v : ℕ) (t u : List ℕ) (W : W
   abbrev g : Graph
   g = graphOf n s ts hs
 
-  pub walking-end : length path ≤ k → eqb v (mate s) ≡ isWanted g path
-  unfolding wantedFrom
-  walking-end l = sym (W .rest ∙ rw (drop-of-length-le path {i = k} l))
+  -- no arc is left
+  module _ (l : length path ≤ k) (m : ℕ) (em : m ≡ mate s) where
+    walking-end : isWanted g path ≡ eqb v m
+    unfolding wantedFrom
+    walking-end = W .rest ∙ rw (drop-of-length-le path {i = k} l, em)
+
+    pub walking-elsewhere : v ≢ m → false ≡ isWanted g path
+    walking-elsewhere n = rw (walking-end, ne-eqb v m n)
+
+    pub walking-there : v ≡ m → true ≡ isWanted g path
+    walking-there e = rw (walking-end, eq-eqb v m e)
 
   -- the next arc i goes from x to y, and m is its mate
   module _ (l : k < length path) (i x : ℕ) (ei : getD path k 0 ≡ i) (low : i < length ts) (ex : x ≡ getD ts i 0) where

@@ -118,7 +118,7 @@ fn all_entered(top: u8, entries: &[u16; 256]) -> bool
     let mut c: usize = 3;
     while c <= last {
         if entries[c] != 1 {
-            return false;
+            return false; // entered never, or twice
         }
         c += 1;
     }
@@ -130,16 +130,16 @@ pub fn is_barrier(pairs: usize, source: usize, tails: &[u8], heads: &[u8], class
     ensures { λ r. ⌜ r ≡ isBarrier (graphOf pairs source (now (tails .entry)) (now (heads .entry))) (now (classes .entry)) ⌝ }
 {
     if classes.len() != 2 * pairs {
-        return false;
+        return false; // not a class for each node
     }
     if classes[source] != 1 {
-        return false;
+        return false; // the source not in A
     }
     if !mates_agree(classes) {
-        return false;
+        return false; // mates in classes that are not mates
     }
     if !arcs_fit(tails, heads, classes) {
-        return false;
+        return false; // an arc that may not be
     }
     let entries = count_entries(tails, heads, classes);
     all_entered(largest(classes), &entries)

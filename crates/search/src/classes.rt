@@ -30,8 +30,8 @@ fn root_of(
     loop {
         let e = via[b];
         let x = wide(tails[e]);
-        let m = mate_of(x);
-        if birth[m] == 0 {
+        let outside = mate_of(x);
+        if birth[outside] == 0 {
             return b;
         }
         b = base[x / 2];

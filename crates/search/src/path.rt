@@ -21,19 +21,22 @@ pub fn is_wanted(pairs: usize, source: usize, tails: &[u8], heads: &[u8], path: 
     while k < path.len() {
         let i = path[k] as usize;
         if wide(tails[i]) != at {
-            return false;
+            return false; // not joined
         }
         at = wide(heads[i]);
         if seen[at] == 1 {
-            return false;
+            return false; // a node twice
         }
         let m = mate_of(i);
         if used[m] == 1 {
-            return false;
+            return false; // an arc with its mate
         }
         seen[at] = 1;
         used[i] = 1;
         k += 1;
     }
-    at == mate_of(source)
+    if at != mate_of(source) {
+        return false; // another end
+    }
+    true
 }
