@@ -21,11 +21,10 @@ use Rattle.frames.proofs.Questions.{or-stop, or-go}
 use Rattle.frames.proofs.HeaderFrames.{header-line, first-number}
 use Rattle.frames.proofs.ShapeFaults.{fits-free}
 use Rattle.frames.proofs.Stores.{storable-next}
-use Rattle.frames.proofs.StoredBodies.{body-storable, first-size, first-pairs, second-size, second-pairs}
+use Rattle.frames.proofs.StoredBodies.{body-storable, body-few, first-size, first-pairs, second-size, second-pairs}
 use Rattle.lanes.specs.Tables.{Holds}
 use Rattle.lanes.specs.StockFile.{headerFits, stockIn, pairsFault, stockFault}
 use Rattle.lanes.specs.Readers.{StockHeld, StockRead}
-use Rattle.lanes.proofs.Bodies.{body-small}
 
 -- THE HEADER
 module _ (f : List ℕ) (h : headerFault stockForm f ≡ 0) where
@@ -69,7 +68,7 @@ module _ {f : List ℕ} {z : Bool} {number next count firsts : ℕ} (a : ShapeAn
         lit-size : length (runAt 19 f turn) ≤ 8571
         lit-size =
             let s = second-size (a .shaped e) 18 19 refl refl (λ q. omega arith) (λ q. omega arith) (λ q. omega arith) (one .passed) in
-            omega (arith, s, body-small (a .shaped e) refl)
+            omega (arith, s, body-few (a .shaped e) (omega arith), a .shaped e .short)
 
         pub lit-room : Storable f turn × (length (runAt 19 f turn) ≤ length xs) × (length (runAt 19 f turn) ≤ length ys)
         lit-room = (
