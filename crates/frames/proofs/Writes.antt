@@ -1,5 +1,4 @@
 -- Runs of bytes written one behind the other. Assumes nothing.
---   sets-append                         a run of stores behind another is one run
 --   sets-over                           a run of stores at the front: what is stored, then what stood behind it (document 03's `over`)
 --   written-rest, written-then          the same of what two calls wrote
 --   written-over                        the same of a text written at the front
@@ -9,23 +8,18 @@
 --   text-step, text-written             a text written byte by byte
 --   barrierLine-frame                   the fixed bytes of the first line of a barrier are its frame
 use mathlib.Core.Path.{_≡_, refl, _∙_}
-use mathlib.Core.List.{List, [], _∷_, _++_}
+use mathlib.Core.List.{List, _++_}
 use Prim.Native.Nat.{ℕ, zero, suc, _+_, _/_, _%_, _≤_, _<_}
 use native.Mathlib.Omega.{arith}
 use native.Mathlib.Numerals.{add-one}
-use native.Mathlib.Nat.{add-zero, zero-add}
+use native.Mathlib.Nat.{zero-add}
 use lib.ListN.{length, getD, drop, set, length-append, drop-of-length-le}
 use lib.Seq.{drop-cons, sets, sets-eq}
+use Rattle.counting.proofs.Stores.{sets-append}
 use Rattle.frames.specs.Frames.{digitByte, hexBytes, frame2, frame4, frame6, frameOf4}
 use Rattle.frames.specs.Writes.{Written, barrierLine}
 
 -- ONE RUN BEHIND ANOTHER
-pub sets-append : (l : List ℕ) (i : ℕ) (xs ys : List ℕ) → sets (sets l i xs) (i + length xs) ys ≡ sets l i (xs ++ ys)
-sets-append l i [] ys = rw (add-zero i)
-sets-append l i (x ∷ xs) ys =
-    let e : i + suc (length xs) ≡ suc i + length xs = omega arith in
-    rw e (sets-append (set l i x) (suc i) xs ys)
-
 pub sets-over : (xs l : List ℕ) → length xs ≤ length l → sets l 0 xs ≡ xs ++ drop (length xs) l
 sets-over xs l h = let e = sets-eq xs l 0 (omega arith) in rw zero-add at e
 

@@ -2,8 +2,7 @@
 --   queued-same                  the same set, by another test
 --   queue-room                   a node that is not in the queue has a place in it
 --   enqueued-none, -add, -same   a queue grown by no node, by one node more, with the same set
---   enqueued-trans               grown twice
---   below-next, below-skip       the test of `enqueue`, one node more
+--   below-room, below-next, below-skip    the loop of `enqueue`, one node more
 --   kept-short                   a shorter front is kept too
 use mathlib.Core.Path.{_≡_, refl, sym, ap, subst, _∙_}
 use mathlib.Core.Logic.{inl, _≢_, ⊎-elim}

@@ -5,17 +5,16 @@
 --   tail-node, head-node          they are nodes
 --   arc-in, in-arcs               arc numbers, by the table's length
 --   table-covers                  each end of each arc is below the number of nodes
-use mathlib.Core.Path.{_≡_, refl, sym, ap, _∙_}
+use mathlib.Core.Path.{_≡_, refl, ap, _∙_}
 use mathlib.Core.List.{List, [], _∷_}
 use Prim.Native.Nat.{ℕ, zero, suc, _+_, _*_, _<_}
 use native.Mathlib.Omega.{arith}
 use lib.ListN.{length, getD, drop}
 use lib.Seq.{getD-drop}
 use Rattle.counting.specs.Pairs.{Pair, pair, noPair}
-use Rattle.skew.specs.Graph.{Graph, mate, nodes}
+use Rattle.skew.specs.Graph.{Graph}
 use Rattle.skew.specs.Paths.{tail, head}
-use Rattle.skew.proofs.Mates.{mate-mate, mate-below}
-use Rattle.skew.proofs.Paths.{mate-arc}
+use Rattle.skew.proofs.Paths.{tail-node as tail-is-node}
 use Rattle.search.specs.Table.{arcsOf, graphOf, ArcTable}
 use Rattle.search.specs.Barriers.{Covers}
 
@@ -52,12 +51,8 @@ module _ (n s : ℕ) (ts hs : List ℕ) where
     pub head-node : (i : ℕ) → i < length ts → getD hs i 0 < 2 * n
     head-node i h = rw (head-is i h) at (T .well-formed .head-node i (arc-in i h))
 
-    -- a tail is the mate of the head of the arc's mate
     pub tail-node : (i : ℕ) → i < length ts → getD ts i 0 < 2 * n
-    tail-node i h =
-        let m = mate-arc g (T .well-formed .symmetric) i (arc-in i h) in
-        let e : tail g i ≡ mate (head g (mate i)) = sym (ap (λ (z : ℕ). mate z) (m .2) ∙ mate-mate (tail g i)) in
-        rw (← tail-is i h, e) (mate-below (head g (mate i)) (nodes g) (omega arith) (T .well-formed .head-node (mate i) (m .0)))
+    tail-node i h = rw (tail-is i h) at (tail-is-node g (T .well-formed) i (arc-in i h))
 
     pub table-covers : Covers ts hs (2 * n)
     table-covers = record { same = T .as-long; tails = tail-node; heads = head-node }

@@ -4,7 +4,7 @@
 --   walking-start, -next           the loop that judges
 --   walking-there, -elsewhere      no arc is left: at the source's mate, or at another node
 --   walking-apart, -seen, -used    an arc that starts elsewhere than the last one ended, leads to a node seen, has its mate used
-use mathlib.Core.Path.{_≡_, refl, sym, _∙_}
+use mathlib.Core.Path.{_≡_, refl, _∙_}
 use mathlib.Core.Logic.{_≢_, ⊎-elim}
 use mathlib.Core.Bool.{true, false, _&&_, not}
 use mathlib.Core.List.{List, [], _∷_}

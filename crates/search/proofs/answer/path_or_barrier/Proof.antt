@@ -55,7 +55,7 @@ answer-in-requires c κs =
     let g = graphOf (args .pairs) (args .source) (args .tails .now) (args .heads .now) in (
       pre .0,
       (
-        (cleared g _ _ (pre .1 .0) (clear .ensures), front-clear g 256 (omega (arith, pre .0 .pairs-few))),
+        (cleared g (args .reached .now) _ (pre .1 .0) (clear .ensures), front-clear g 256 (omega (arith, pre .0 .pairs-few))),
         (
           (length-take-le _ _ (omega (arith, pre .0 .pairs-few)), length-take-le _ _ (omega (arith, pre .0 .pairs-few)), length-take-le _ _ (omega (arith, pre .0 .pairs-few))),
           (pre .1 .1, pre .1 .2),

@@ -21,7 +21,8 @@ wide-requires c κs = search needs
 
 loop-holds : tie.Need-loop-holds Inv-loop μ-loop
 loop-holds c =
-    (omega arith, c .wide .ensures .0, entered-start (c .before .args .entries .now) (c .before .args .top))
+    let args = c .before .args in
+    (omega arith, c .wide .ensures .0, entered-start (args .entries .now) (args .top))
 
 mul-if1 : tie.Need-mul-if1 Inv-loop μ-loop
 mul-if1 c = search needs
@@ -31,7 +32,9 @@ element-copy-out-if1 c = search needs
 
 returns : tie.Need-returns Inv-loop μ-loop
 returns c =
-    entered-fails (c .before .before .before .before .before .args .entries .now) (c .before .before .before .before .before .args .top) _ (c .before .before .before .loop .inv .2) (c .before .before .before .loop .inv .0) (omega (arith, c .before .before .before .loop .inv .1)) (c .if1 .taken)
+    let args = c .before .before .before .before .before .args in
+    let loop = c .before .before .before .loop in
+    entered-fails (args .entries .now) (args .top) _ (loop .inv .2) (loop .inv .0) (omega (arith, loop .inv .1)) (c .if1 .taken)
 
 add-c : tie.Need-add-c Inv-loop μ-loop
 add-c c = search needs
@@ -41,11 +44,15 @@ loop-less c = search needs
 
 loop-again : tie.Need-loop-again Inv-loop μ-loop
 loop-again c =
-    (omega arith, c .before .before .before .loop .inv .1, entered-next (c .before .before .before .before .before .args .entries .now) (c .before .before .before .before .before .args .top) _ (c .before .before .before .loop .inv .2) (c .before .before .before .loop .inv .0) (omega (arith, c .before .before .before .loop .inv .1)) (c .if1 .left))
+    let loop = c .before .before .before .loop in
+    let args = c .before .before .before .before .before .args in
+    (omega arith, loop .inv .1, entered-next (args .entries .now) (args .top) _ (loop .inv .2) (loop .inv .0) (omega (arith, loop .inv .1)) (c .if1 .left))
 
 returns-2 : tie.Need-returns-2 Inv-loop μ-loop
 returns-2 c =
-    entered-end (c .before .before .before .args .entries .now) (c .before .before .before .args .top) (c .before .loop .c) (c .before .loop .inv .2) (omega (arith, c .before .loop .inv .1))
+    let args = c .before .before .before .args in
+    let loop = c .before .loop in
+    entered-end (args .entries .now) (args .top) (loop .c) (loop .inv .2) (omega (arith, loop .inv .1))
 
 pub all-entered-spec : {M : Type 1} → statement M
 all-entered-spec =

@@ -28,25 +28,41 @@ wide-requires : tie.Need-wide-requires Inv-loop μ-loop
 wide-requires c κs = search needs
 
 shared-slice-read-wide-2 : tie.Need-shared-slice-read-wide-2 Inv-loop μ-loop
-shared-slice-read-wide-2 c = omega (arith, c .before .before .before .before .before .before .before .before .pre .same)
+shared-slice-read-wide-2 c =
+    let pre = c .before .before .before .before .before .before .before .before .pre in
+    omega (arith, pre .same)
 
 wide-requires-2 : tie.Need-wide-requires-2 Inv-loop μ-loop
 wide-requires-2 c κs = search needs
 
 shared-slice-read-classes-fit : tie.Need-shared-slice-read-classes-fit Inv-loop μ-loop
 shared-slice-read-classes-fit c =
-    omega (arith, c .before .before .before .before .before .before .before .before .before .before .pre .tails (c .before .before .before .before .before .before .loop .i) (c .before .before .before .before .before .loop-test .taken), c .before .before .before .wide .ensures)
+    let pre = c .before .before .before .before .before .before .before .before .before .before .pre in
+    let loop = c .before .before .before .before .before .before .loop in
+    let loop-test = c .before .before .before .before .before .loop-test in
+    let wide = c .before .before .before .wide in
+    omega (arith, pre .tails (loop .i) (loop-test .taken), wide .ensures)
 
 shared-slice-read-classes-fit-2 : tie.Need-shared-slice-read-classes-fit-2 Inv-loop μ-loop
 shared-slice-read-classes-fit-2 c =
-    omega (arith, c .before .before .before .before .before .before .before .before .before .before .before .pre .heads (c .before .before .before .before .before .before .before .loop .i) (c .before .before .before .before .before .before .loop-test .taken), c .before .before .wide2 .ensures)
+    let pre = c .before .before .before .before .before .before .before .before .before .before .before .pre in
+    let loop = c .before .before .before .before .before .before .before .loop in
+    let loop-test = c .before .before .before .before .before .before .loop-test in
+    let wide2 = c .before .before .wide2 in
+    omega (arith, pre .heads (loop .i) (loop-test .taken), wide2 .ensures)
 
 classes-fit-requires : tie.Need-classes-fit-requires Inv-loop μ-loop
 classes-fit-requires c κs = search needs
 
 returns : tie.Need-returns Inv-loop μ-loop
 returns c =
-    arcs-fail (c .before .before .before .before .before .before .before .before .before .before .before .before .before .args .classes .now) (c .before .before .before .before .before .before .before .before .before .before .before .before .before .args .tails .now) (c .before .before .before .before .before .before .before .before .before .before .before .before .before .args .heads .now) _ (c .before .before .before .before .before .before .before .before .before .loop .inv .1) (c .before .before .before .before .before .before .before .before .loop-test .taken) (rw (← c .before .before .before .before .before .before .wide .ensures .0, ← c .before .before .before .before .wide2 .ensures .0, ← c .before .classes-fit .ensures) (not-true _ (c .if1 .taken)))
+    let args = c .before .before .before .before .before .before .before .before .before .before .before .before .before .args in
+    let loop = c .before .before .before .before .before .before .before .before .before .loop in
+    let loop-test = c .before .before .before .before .before .before .before .before .loop-test in
+    let wide = c .before .before .before .before .before .before .wide in
+    let wide2 = c .before .before .before .before .wide2 in
+    let classes-fit = c .before .classes-fit in
+    arcs-fail (args .classes .now) (args .tails .now) (args .heads .now) _ (loop .inv .1) (loop-test .taken) (rw (← wide .ensures .0, ← wide2 .ensures .0, ← classes-fit .ensures) (not-true _ (c .if1 .taken)))
 
 add-i : tie.Need-add-i Inv-loop μ-loop
 add-i c = search needs
@@ -56,11 +72,19 @@ loop-less c = search needs
 
 loop-again : tie.Need-loop-again Inv-loop μ-loop
 loop-again c =
-    (omega arith, arcs-next (c .before .before .before .before .before .before .before .before .before .before .before .before .before .args .classes .now) (c .before .before .before .before .before .before .before .before .before .before .before .before .before .args .tails .now) (c .before .before .before .before .before .before .before .before .before .before .before .before .before .args .heads .now) _ (c .before .before .before .before .before .before .before .before .before .loop .inv .1) (c .before .before .before .before .before .before .before .before .loop-test .taken) (rw (← c .before .before .before .before .before .before .wide .ensures .0, ← c .before .before .before .before .wide2 .ensures .0, ← c .before .classes-fit .ensures) (not-false _ (c .if1 .left))))
+    let args = c .before .before .before .before .before .before .before .before .before .before .before .before .before .args in
+    let loop = c .before .before .before .before .before .before .before .before .before .loop in
+    let loop-test = c .before .before .before .before .before .before .before .before .loop-test in
+    let wide = c .before .before .before .before .before .before .wide in
+    let wide2 = c .before .before .before .before .wide2 in
+    let classes-fit = c .before .classes-fit in
+    (omega arith, arcs-next (args .classes .now) (args .tails .now) (args .heads .now) _ (loop .inv .1) (loop-test .taken) (rw (← wide .ensures .0, ← wide2 .ensures .0, ← classes-fit .ensures) (not-false _ (c .if1 .left))))
 
 returns-2 : tie.Need-returns-2 Inv-loop μ-loop
 returns-2 c =
-    arcs-end (c .before .before .before .before .before .args .classes .now) (c .before .before .before .before .before .args .tails .now) (c .before .before .before .before .before .args .heads .now) _ (c .before .loop .inv .1) (c .loop-test .left)
+    let args = c .before .before .before .before .before .args in
+    let loop = c .before .loop in
+    arcs-end (args .classes .now) (args .tails .now) (args .heads .now) _ (loop .inv .1) (c .loop-test .left)
 
 pub arcs-fit-spec : {M : Type 1} → statement M
 arcs-fit-spec =

@@ -19,7 +19,8 @@ abbrev μ-loop : tie.MeasureT-loop
 
 loop-holds : tie.Need-loop-holds Inv-loop μ-loop
 loop-holds c =
-    (omega arith, counting-start (c .before .before .before .args .classes .now) (c .before .before .before .args .tails .now) (c .before .before .before .args .heads .now))
+    let args = c .before .before .before .args in
+    (omega arith, counting-start (args .classes .now) (args .tails .now) (args .heads .now))
 
 shared-slice-read-wide : tie.Need-shared-slice-read-wide Inv-loop μ-loop
 shared-slice-read-wide c = search needs
@@ -28,18 +29,28 @@ wide-requires : tie.Need-wide-requires Inv-loop μ-loop
 wide-requires c κs = search needs
 
 shared-slice-read-wide-2 : tie.Need-shared-slice-read-wide-2 Inv-loop μ-loop
-shared-slice-read-wide-2 c = omega (arith, c .before .before .before .before .before .before .before .before .pre .0 .same)
+shared-slice-read-wide-2 c =
+    let pre = c .before .before .before .before .before .before .before .before .pre in
+    omega (arith, pre .0 .same)
 
 wide-requires-2 : tie.Need-wide-requires-2 Inv-loop μ-loop
 wide-requires-2 c κs = search needs
 
 shared-slice-read-if1 : tie.Need-shared-slice-read-if1 Inv-loop μ-loop
 shared-slice-read-if1 c =
-    omega (arith, c .before .before .before .before .before .before .before .before .before .before .pre .0 .tails (c .before .before .before .before .before .before .loop .i) (c .before .before .before .before .before .loop-test .taken), c .before .before .before .wide .ensures)
+    let pre = c .before .before .before .before .before .before .before .before .before .before .pre in
+    let loop = c .before .before .before .before .before .before .loop in
+    let loop-test = c .before .before .before .before .before .loop-test in
+    let wide = c .before .before .before .wide in
+    omega (arith, pre .0 .tails (loop .i) (loop-test .taken), wide .ensures)
 
 shared-slice-read-wide-3 : tie.Need-shared-slice-read-wide-3 Inv-loop μ-loop
 shared-slice-read-wide-3 c =
-    omega (arith, c .before .before .before .before .before .before .before .before .before .before .before .before .pre .0 .heads (c .before .before .before .before .before .before .before .before .loop .i) (c .before .before .before .before .before .before .before .loop-test .taken), c .before .before .before .wide2 .ensures)
+    let pre = c .before .before .before .before .before .before .before .before .before .before .before .before .pre in
+    let loop = c .before .before .before .before .before .before .before .before .loop in
+    let loop-test = c .before .before .before .before .before .before .before .loop-test in
+    let wide2 = c .before .before .before .wide2 in
+    omega (arith, pre .0 .heads (loop .i) (loop-test .taken), wide2 .ensures)
 
 wide-requires-3 : tie.Need-wide-requires-3 Inv-loop μ-loop
 wide-requires-3 c κs = search needs
@@ -52,7 +63,11 @@ array-read-entries c = search needs
 
 add-entries : tie.Need-add-entries Inv-loop μ-loop
 add-entries c =
-    omega (arith, counting-small (c .before .before .before .before .before .before .before .before .before .before .before .before .before .args .classes .now) (c .before .before .before .before .before .before .before .before .before .before .before .before .before .args .tails .now) (c .before .before .before .before .before .before .before .before .before .before .before .before .before .args .heads .now) _ _ (c .before .before .before .before .before .before .before .before .before .loop .inv .1) (c .before .before .before .before .before .before .before .before .loop-test .taken) (c .wide3 .result) (c .wide3 .ensures .1), c .before .before .before .before .before .before .before .before .before .before .before .before .before .pre .1)
+    let args = c .before .before .before .before .before .before .before .before .before .before .before .before .before .args in
+    let loop = c .before .before .before .before .before .before .before .before .before .loop in
+    let loop-test = c .before .before .before .before .before .before .before .before .loop-test in
+    let pre = c .before .before .before .before .before .before .before .before .before .before .before .before .before .pre in
+    omega (arith, counting-small (args .classes .now) (args .tails .now) (args .heads .now) _ _ (loop .inv .1) (loop-test .taken) (c .wide3 .result) (c .wide3 .ensures .1), pre .1)
 
 array-write-entries : tie.Need-array-write-entries Inv-loop μ-loop
 array-write-entries c = search needs
@@ -64,17 +79,24 @@ loop-less : tie.Need-loop-less Inv-loop μ-loop
 loop-less c = search needs
 
 loop-again : tie.Need-loop-again Inv-loop μ-loop
-loop-again c = (
-  omega arith,
-  ⊎-elim
-      (λ w. rw (w .3) (counting-enters (c .before .before .before .before .before .before .before .before .before .before .before .args .classes .now) (c .before .before .before .before .before .before .before .before .before .before .before .args .tails .now) (c .before .before .before .before .before .before .before .before .before .before .before .args .heads .now) _ _ (c .before .before .before .before .before .before .before .loop .inv .1) (c .before .before .before .before .before .before .loop-test .taken) (w .2 .result) (w .2 .ensures .1) (rw (← c .before .before .before .before .wide .ensures .0) (w .0 .taken)) (rw (← c .before .before .wide2 .ensures .0) (sym (w .2 .ensures .0)))))
-      (λ w. rw (w .1) (counting-passes (c .before .before .before .before .before .before .before .before .before .before .before .args .classes .now) (c .before .before .before .before .before .before .before .before .before .before .before .args .tails .now) (c .before .before .before .before .before .before .before .before .before .before .before .args .heads .now) _ _ (c .before .before .before .before .before .before .before .loop .inv .1) (c .before .before .before .before .before .before .loop-test .taken) (rw (← c .before .before .before .before .wide .ensures .0) (w .0 .left))))
-      (c .if1 .came),
-)
+loop-again c =
+    let args = c .before .before .before .before .before .before .before .before .before .before .before .args in
+    let loop = c .before .before .before .before .before .before .before .loop in
+    let loop-test = c .before .before .before .before .before .before .loop-test in
+    let wide = c .before .before .before .before .wide in
+    let wide2 = c .before .before .wide2 in (
+      omega arith,
+      ⊎-elim
+          (λ w. rw (w .3) (counting-enters (args .classes .now) (args .tails .now) (args .heads .now) _ _ (loop .inv .1) (loop-test .taken) (w .2 .result) (w .2 .ensures .1) (rw (← wide .ensures .0) (w .0 .taken)) (rw (← wide2 .ensures .0) (sym (w .2 .ensures .0)))))
+          (λ w. rw (w .1) (counting-passes (args .classes .now) (args .tails .now) (args .heads .now) _ _ (loop .inv .1) (loop-test .taken) (rw (← wide .ensures .0) (w .0 .left))))
+          (c .if1 .came),
+    )
 
 returns : tie.Need-returns Inv-loop μ-loop
 returns c =
-    counting-end (c .before .before .before .before .before .args .classes .now) (c .before .before .before .before .before .args .tails .now) (c .before .before .before .before .before .args .heads .now) _ _ (c .loop-test .left) (c .before .loop .inv .1)
+    let args = c .before .before .before .before .before .args in
+    let loop = c .before .loop in
+    counting-end (args .classes .now) (args .tails .now) (args .heads .now) _ _ (c .loop-test .left) (loop .inv .1)
 
 pub count-entries-spec : {M : Type 1} → statement M
 count-entries-spec =

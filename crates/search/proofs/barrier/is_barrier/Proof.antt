@@ -15,33 +15,52 @@ mul-if1 c = search needs
 
 returns : tie.Need-returns
 returns c =
-    rw (ne-eqb (length (c .before .before .before .before .args .classes .now)) (2 * c .before .before .before .before .args .pairs) (c .if1 .taken))
+    let args = c .before .before .before .before .args in
+    rw (ne-eqb (length (args .classes .now)) (2 * args .pairs) (c .if1 .taken))
 
 shared-slice-read-if2 : tie.Need-shared-slice-read-if2
-shared-slice-read-if2 c = omega (arith, c .before .before .before .before .before .pre .well-formed .source-node)
+shared-slice-read-if2 c =
+    let pre = c .before .before .before .before .before .pre in
+    omega (arith, pre .well-formed .source-node)
 
 returns-2 : tie.Need-returns-2
 returns-2 c =
-    rw (eq-eqb (length (c .before .before .before .before .before .before .args .classes .now)) (2 * c .before .before .before .before .before .before .args .pairs) (c .before .before .if1 .left), ne-eqb (getD (c .before .before .before .before .before .before .args .classes .now) (c .before .before .before .before .before .before .args .source) 0) 1 (c .if2 .taken))
+    let args = c .before .before .before .before .before .before .args in
+    let if1 = c .before .before .if1 in
+    rw (eq-eqb (length (args .classes .now)) (2 * args .pairs) (if1 .left), ne-eqb (getD (args .classes .now) (args .source) 0) 1 (c .if2 .taken))
 
 mates-agree-requires : tie.Need-mates-agree-requires
 mates-agree-requires c κs = search needs
 
 returns-3 : tie.Need-returns-3
 returns-3 c =
-    rw (eq-eqb (length (c .before .before .before .before .before .before .before .before .args .classes .now)) (2 * c .before .before .before .before .before .before .before .before .args .pairs) (c .before .before .before .before .if1 .left), eq-eqb (getD (c .before .before .before .before .before .before .before .before .args .classes .now) (c .before .before .before .before .before .before .before .before .args .source) 0) 1 (c .before .before .if2 .left), ← c .before .before .before .before .if1 .left, ← c .before .mates-agree .ensures, not-true (c .before .mates-agree .result) (c .if3 .taken))
+    let args = c .before .before .before .before .before .before .before .before .args in
+    let if1 = c .before .before .before .before .if1 in
+    let if2 = c .before .before .if2 in
+    let mates-agree = c .before .mates-agree in
+    rw (eq-eqb (length (args .classes .now)) (2 * args .pairs) (if1 .left), eq-eqb (getD (args .classes .now) (args .source) 0) 1 (if2 .left), ← if1 .left, ← mates-agree .ensures, not-true (mates-agree .result) (c .if3 .taken))
 
 arcs-fit-requires : tie.Need-arcs-fit-requires
 arcs-fit-requires c κs =
-    rw (c .before .before .before .before .if1 .left) (table-covers _ _ _ _ (c .before .before .before .before .before .before .before .before .pre))
+    let if1 = c .before .before .before .before .if1 in
+    let pre = c .before .before .before .before .before .before .before .before .pre in
+    rw (if1 .left) (table-covers _ _ _ _ (pre))
 
 returns-4 : tie.Need-returns-4
 returns-4 c =
-    rw (eq-eqb (length (c .before .before .before .before .before .before .before .before .before .before .args .classes .now)) (2 * c .before .before .before .before .before .before .before .before .before .before .args .pairs) (c .before .before .before .before .before .before .if1 .left), eq-eqb (getD (c .before .before .before .before .before .before .before .before .before .before .args .classes .now) (c .before .before .before .before .before .before .before .before .before .before .args .source) 0) 1 (c .before .before .before .before .if2 .left), ← c .before .before .before .before .before .before .if1 .left, ← c .before .before .before .mates-agree .ensures, not-false (c .before .before .before .mates-agree .result) (c .before .before .if3 .left), ← c .before .arcs-fit .ensures, not-true (c .before .arcs-fit .result) (c .if4 .taken))
+    let args = c .before .before .before .before .before .before .before .before .before .before .args in
+    let if1 = c .before .before .before .before .before .before .if1 in
+    let if2 = c .before .before .before .before .if2 in
+    let mates-agree = c .before .before .before .mates-agree in
+    let if3 = c .before .before .if3 in
+    let arcs-fit = c .before .arcs-fit in
+    rw (eq-eqb (length (args .classes .now)) (2 * args .pairs) (if1 .left), eq-eqb (getD (args .classes .now) (args .source) 0) 1 (if2 .left), ← if1 .left, ← mates-agree .ensures, not-false (mates-agree .result) (if3 .left), ← arcs-fit .ensures, not-true (arcs-fit .result) (c .if4 .taken))
 
 count-entries-requires : tie.Need-count-entries-requires
 count-entries-requires c κs =
-    (rw (c .before .before .before .before .before .before .if1 .left) (table-covers _ _ _ _ (c .before .before .before .before .before .before .before .before .before .before .pre)), c .before .before .before .before .before .before .before .before .before .before .pre .arcs-few)
+    let if1 = c .before .before .before .before .before .before .if1 in
+    let pre = c .before .before .before .before .before .before .before .before .before .before .pre in
+    (rw (if1 .left) (table-covers _ _ _ _ (pre)), pre .arcs-few)
 
 largest-requires : tie.Need-largest-requires
 largest-requires c κs = search needs
@@ -51,8 +70,17 @@ all-entered-requires c κs = search needs
 
 returns-5 : tie.Need-returns-5
 returns-5 c =
-    rw (eq-eqb (length (c .before .before .before .before .before .before .before .before .before .before .before .before .before .before .args .classes .now)) (2 * c .before .before .before .before .before .before .before .before .before .before .before .before .before .before .args .pairs) (c .before .before .before .before .before .before .before .before .before .before .if1 .left), eq-eqb (getD (c .before .before .before .before .before .before .before .before .before .before .before .before .before .before .args .classes .now) (c .before .before .before .before .before .before .before .before .before .before .before .before .before .before .args .source) 0) 1 (c .before .before .before .before .before .before .before .before .if2 .left), ← c .before .before .before .before .before .before .before .before .before .before .if1 .left, ← c .before .before .before .before .before .before .before .mates-agree .ensures, not-false (c .before .before .before .before .before .before .before .mates-agree .result) (c .before .before .before .before .before .before .if3 .left), ← c .before .before .before .before .before .arcs-fit .ensures, not-false (c .before .before .before .before .before .arcs-fit .result) (c .before .before .before .before .if4 .left), ← c .before .before .largest .ensures)
-    (c .all-entered .ensures ∙ entered-counted (c .before .before .before .count-entries .result) _ _ (c .before .before .largest .result) (omega (arith, c .before .before .largest .ok)) (c .before .before .before .count-entries .ensures))
+    let args = c .before .before .before .before .before .before .before .before .before .before .before .before .before .before .args in
+    let if1 = c .before .before .before .before .before .before .before .before .before .before .if1 in
+    let if2 = c .before .before .before .before .before .before .before .before .if2 in
+    let mates-agree = c .before .before .before .before .before .before .before .mates-agree in
+    let if3 = c .before .before .before .before .before .before .if3 in
+    let arcs-fit = c .before .before .before .before .before .arcs-fit in
+    let if4 = c .before .before .before .before .if4 in
+    let largest = c .before .before .largest in
+    let count-entries = c .before .before .before .count-entries in
+    rw (eq-eqb (length (args .classes .now)) (2 * args .pairs) (if1 .left), eq-eqb (getD (args .classes .now) (args .source) 0) 1 (if2 .left), ← if1 .left, ← mates-agree .ensures, not-false (mates-agree .result) (if3 .left), ← arcs-fit .ensures, not-false (arcs-fit .result) (if4 .left), ← largest .ensures)
+    (c .all-entered .ensures ∙ entered-counted (count-entries .result) _ _ (largest .result) (omega (arith, largest .ok)) (count-entries .ensures))
 
 pub is-barrier-spec : {M : Type 1} → statement M
 is-barrier-spec =

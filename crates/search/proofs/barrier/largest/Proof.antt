@@ -32,17 +32,24 @@ loop-less c = search needs
 
 loop-again : tie.Need-loop-again Inv-loop μ-loop
 loop-again c =
-    (omega arith, largest-more _ _ _ (c .before .before .before .before .loop .inv .0) (c .before .before .before .loop-test .taken) (c .before .before .before .before .loop .inv .1) (c .before .if1 .taken))
+    let loop = c .before .before .before .before .loop in
+    let loop-test = c .before .before .before .loop-test in
+    let if1 = c .before .if1 in
+    (omega arith, largest-more _ _ _ (loop .inv .0) (loop-test .taken) (loop .inv .1) (if1 .taken))
 
 loop-less-2 : tie.Need-loop-less-2 Inv-loop μ-loop
 loop-less-2 c = search needs
 
 loop-again-2 : tie.Need-loop-again-2 Inv-loop μ-loop
 loop-again-2 c =
-    (omega arith, largest-same _ _ _ (c .before .before .before .loop .inv .0) (c .before .before .loop-test .taken) (c .before .before .before .loop .inv .1) (c .if1 .left))
+    let loop = c .before .before .before .loop in
+    let loop-test = c .before .before .loop-test in
+    (omega arith, largest-same _ _ _ (loop .inv .0) (loop-test .taken) (loop .inv .1) (c .if1 .left))
 
 returns : tie.Need-returns Inv-loop μ-loop
-returns c = let e : c .before .loop .k ≡ 0 = omega arith in rw e at (c .before .loop .inv .1)
+returns c =
+    let loop = c .before .loop in
+    let e : loop .k ≡ 0 = omega arith in rw e at (loop .inv .1)
 
 pub largest-spec : {M : Type 1} → statement M
 largest-spec =

@@ -26,7 +26,12 @@ mate-of-requires c κs = search needs
 
 shared-slice-read-if1 : tie.Need-shared-slice-read-if1 Inv-loop μ-loop
 shared-slice-read-if1 c =
-    omega (arith, c .before .mate-of .ensures, mate-below (c .before .before .before .loop .v) (length (c .before .before .before .before .before .args .classes .now)) (c .before .before .before .before .before .pre .0) (c .before .before .loop-test .taken))
+    let mate-of = c .before .mate-of in
+    let loop = c .before .before .before .loop in
+    let args = c .before .before .before .before .before .args in
+    let pre = c .before .before .before .before .before .pre in
+    let loop-test = c .before .before .loop-test in
+    omega (arith, mate-of .ensures, mate-below (loop .v) (length (args .classes .now)) (pre .0) (loop-test .taken))
 
 shared-slice-read-mate-class : tie.Need-shared-slice-read-mate-class Inv-loop μ-loop
 shared-slice-read-mate-class c = search needs
@@ -36,7 +41,11 @@ mate-class-requires c κs = search needs
 
 returns : tie.Need-returns Inv-loop μ-loop
 returns c =
-    range-fails _ _ _ (c .before .before .before .before .before .before .loop .inv .1) (c .before .before .before .before .before .loop-test .taken) (rw (← c .before .before .before .before .mate-of .ensures, ← c .before .mate-class .ensures) (ne-eqb _ _ (c .if1 .taken)))
+    let loop = c .before .before .before .before .before .before .loop in
+    let loop-test = c .before .before .before .before .before .loop-test in
+    let mate-of = c .before .before .before .before .mate-of in
+    let mate-class = c .before .mate-class in
+    range-fails _ _ _ (loop .inv .1) (loop-test .taken) (rw (← mate-of .ensures, ← mate-class .ensures) (ne-eqb _ _ (c .if1 .taken)))
 
 add-v : tie.Need-add-v Inv-loop μ-loop
 add-v c = search needs
@@ -46,10 +55,16 @@ loop-less c = search needs
 
 loop-again : tie.Need-loop-again Inv-loop μ-loop
 loop-again c =
-    (omega arith, range-next _ _ _ (c .before .before .before .before .before .before .loop .inv .1) (c .before .before .before .before .before .loop-test .taken) (rw (← c .before .before .before .before .mate-of .ensures, ← c .before .mate-class .ensures) (eq-eqb _ _ (c .if1 .left))))
+    let loop = c .before .before .before .before .before .before .loop in
+    let loop-test = c .before .before .before .before .before .loop-test in
+    let mate-of = c .before .before .before .before .mate-of in
+    let mate-class = c .before .mate-class in
+    (omega arith, range-next _ _ _ (loop .inv .1) (loop-test .taken) (rw (← mate-of .ensures, ← mate-class .ensures) (eq-eqb _ _ (c .if1 .left))))
 
 returns-2 : tie.Need-returns-2 Inv-loop μ-loop
-returns-2 c = range-end _ _ _ (c .before .loop .inv .1) (c .loop-test .left)
+returns-2 c =
+    let loop = c .before .loop in
+    range-end _ _ _ (loop .inv .1) (c .loop-test .left)
 
 pub mates-agree-spec : {M : Type 1} → statement M
 mates-agree-spec =

@@ -12,10 +12,14 @@ sub-result : tie.Need-sub-result
 sub-result c = search needs
 
 returns : tie.Need-returns
-returns c = rw (eq-eqb (c .before .args .v % 2) 0 (c .if1 .taken))
+returns c =
+    let args = c .before .args in
+    rw (eq-eqb (args .v % 2) 0 (c .if1 .taken))
 
 returns-2 : tie.Need-returns-2
-returns-2 c = rw (ne-eqb (c .before .args .v % 2) 0 (c .if1 .left))
+returns-2 c =
+    let args = c .before .args in
+    rw (ne-eqb (args .v % 2) 0 (c .if1 .left))
 
 pub mate-of-spec : {M : Type 1} → statement M
 mate-of-spec = tie.close (tie.spec add-result sub-result returns returns-2)

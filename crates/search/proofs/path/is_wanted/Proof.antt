@@ -9,10 +9,6 @@ use Rattle.search.specs.Walks.{Walking}
 use Rattle.search.proofs.Walks.{walking-start, walking-apart, walking-seen, walking-used, walking-next, walking-elsewhere, walking-there}
 use Rattle.search.proofs.path.is_wanted.Statement.{statement}
 use Rattle.search.proofs.path.is_wanted.Tie as tie
-use Rattle.search.proofs.path.is_wanted.Reads as reads
-use Rattle.search.proofs.path.is_wanted.Lts as lts
-use Rattle.search.proofs.node.mate_of.Reads as mate-of-reads
-use Rattle.search.proofs.node.wide.Reads as wide-reads
 use borrow.Author.Needs.{needs}
 
 abbrev Inv-loop : tie.InvT-loop

@@ -1,5 +1,5 @@
 -- The base is marked, its mate labelled, its base arc followed. Assumes nothing.
-use mathlib.Core.Path.{refl, _∙_}
+use mathlib.Core.Path.{refl}
 use borrow.Author.Needs.{needs}
 use Rattle.search.proofs.steps.absorb.Statement.{statement}
 use Rattle.search.proofs.steps.absorb.Tie as tie
@@ -51,10 +51,10 @@ same-length-2 c = search needs
 
 returns : tie.Need-returns
 returns c =
-    let label = c .before .before .before .before .before .before .label in
     let mate-of = c .before .before .before .before .before .before .before .mate-of in
+    let label = c .before .before .before .before .before .before .label in
     let wide = c .before .wide in
-    record { marks = refl; vias = label .ensures ∙ rw (mate-of .ensures); parent = rw (wide .ensures .0, label .ensures, mate-of .ensures) }
+    record { marks = refl; vias = rw (← mate-of .ensures) (label .ensures); parent = rw (wide .ensures .0, label .ensures, mate-of .ensures) }
 
 pub absorb-spec : {M : Type 1} → statement M
 absorb-spec =
