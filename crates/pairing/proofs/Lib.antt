@@ -4,10 +4,12 @@
 --   Following    a path followed by rotations
 --   Lighting     a row read from pairs, and its pairs in order
 --   Stores       a table filled from its front
+--   Searching    the doubled table as a search sees it, and its answers
 --   Improving    from the lit pairs to a plan, one search after the other
 pub mod Writing
 pub mod Doubling
 pub mod Following
 pub mod Lighting
 pub mod Stores
+pub mod Searching
 pub mod Improving

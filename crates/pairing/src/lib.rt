@@ -2,6 +2,8 @@
 //   row        rows read from pairs, rotated along a path, written as pairs
 //   table      the doubled table of a row
 //   marks      marks read off a table of reached nodes
+//   plan       largest pairings: plans and standing sheets
 pub mod marks;
+pub mod plan;
 pub mod row;
 pub mod table;

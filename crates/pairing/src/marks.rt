@@ -1,6 +1,6 @@
 // Marks read off a table of reached nodes (document 01, "Stocks"; the table is that of a doubled table without a path).
 ghost use mathlib.Core.Path.{_≡_};
-ghost use Prim.Native.Nat.{_≤_};
+ghost use Prim.Native.Nat.{_*_, _≤_};
 ghost use lib.Dec.{ltb};
 ghost use lib.ListN.{length};
 ghost use Rattle.counting.specs.Tests.{pick, below};
@@ -21,8 +21,8 @@ fn mark_of(outer: usize, inner: usize) -> u8
 }
 
 // The mark of each camera.
-pub fn marks_of(reached: &[usize; 256], marks: &mut [u8])
-    requires { ⌜ length (now marks) ≤ 127 ⌝ }
+pub fn marks_of(reached: &[usize], marks: &mut [u8])
+    requires { ⌜ 2 * length (now marks) ≤ length (now reached) ⌝ }
     ensures { λ r. ⌜ now (marks .exit) ≡ marksBy (reachedIn (now (reached .entry))) (below (length (now (marks .entry)))) ⌝ }
 {
     let mut k: usize = 0;

@@ -22,13 +22,13 @@ loop-holds : tie.Need-loop-holds Inv-loop μ-loop
 loop-holds c = (omega arith, refl, λ j h. absurd (omega arith))
 
 mul-mark-of : tie.Need-mul-mark-of Inv-loop μ-loop
-mul-mark-of c = omega (arith, c .before .loop .inv .1, c .before .before .before .pre)
+mul-mark-of c = search needs
 
 mul-mark-of-2 : tie.Need-mul-mark-of-2 Inv-loop μ-loop
 mul-mark-of-2 c = search needs
 
-element-copy-out-mark-of : tie.Need-element-copy-out-mark-of Inv-loop μ-loop
-element-copy-out-mark-of c = omega (arith, c .before .loop .inv .1, c .before .before .before .pre)
+shared-slice-read-mark-of : tie.Need-shared-slice-read-mark-of Inv-loop μ-loop
+shared-slice-read-mark-of c = omega (arith, c .before .before .loop .inv .1, c .before .before .before .before .before .pre)
 
 mul-mark-of-3 : tie.Need-mul-mark-of-3 Inv-loop μ-loop
 mul-mark-of-3 c = search needs
@@ -39,8 +39,9 @@ add-mark-of c = search needs
 mul-mark-of-4 : tie.Need-mul-mark-of-4 Inv-loop μ-loop
 mul-mark-of-4 c = search needs
 
-element-copy-out-mark-of-2 : tie.Need-element-copy-out-mark-of-2 Inv-loop μ-loop
-element-copy-out-mark-of-2 c = omega (arith, c .before .before .loop .inv .1, c .before .before .before .before .pre)
+shared-slice-read-mark-of-2 : tie.Need-shared-slice-read-mark-of-2 Inv-loop μ-loop
+shared-slice-read-mark-of-2 c =
+    omega (arith, c .before .before .before .loop .inv .1, c .before .before .before .before .before .before .pre)
 
 mark-of-requires : tie.Need-mark-of-requires Inv-loop μ-loop
 mark-of-requires c κs = search needs
@@ -60,7 +61,7 @@ loop-again c =
     let l = c .before .before .before .before .loop in
     let r = c .mark-of in
     let n = length-set (l .marks) (l .k) (r .result) in
-    (omega arith, n ∙ l .inv .1, filled-more (markBy (reachedIn (now (c .before .before .before .before .before .before .args .reached)))) (l .marks) (l .k) (r .result) (omega arith) (l .inv .2) (r .ensures))
+    (omega arith, n ∙ l .inv .1, filled-more (markBy (reachedIn (now (c .before .before .before .before .before .before .before .args .reached)))) (l .marks) (l .k) (r .result) (omega arith) (l .inv .2) (r .ensures))
 
 same-length : tie.Need-same-length Inv-loop μ-loop
 same-length c = c .before .loop .inv .1
@@ -68,7 +69,7 @@ same-length c = c .before .loop .inv .1
 returns : tie.Need-returns Inv-loop μ-loop
 returns c =
     let l = c .before .loop in
-    filled-marks (reachedIn (now (c .before .before .before .args .reached))) (l .marks) _ (l .inv .1) (λ j h. l .inv .2 j (omega (arith, l .inv .1)))
+    filled-marks (reachedIn (now (c .before .before .before .before .args .reached))) (l .marks) _ (l .inv .1) (λ j h. l .inv .2 j (omega (arith, l .inv .1)))
 
 pub marks-of-spec : {M : Type 1} → statement M
 marks-of-spec =
@@ -79,11 +80,11 @@ marks-of-spec =
     loop-holds
     mul-mark-of
     mul-mark-of-2
-    element-copy-out-mark-of
+    shared-slice-read-mark-of
     mul-mark-of-3
     add-mark-of
     mul-mark-of-4
-    element-copy-out-mark-of-2
+    shared-slice-read-mark-of-2
     mark-of-requires
     slice-write-marks
     add-k

@@ -1,0 +1,99 @@
+-- The doubled table of a row as a search sees it, and what each of the search's answers gives. Assumes nothing.
+--   front-length                    the front of a table of zeros, lent for the nodes of a doubled table
+--   path-answer, barrier-answer     what an answer says, by its cases
+--   as-long, arc-table              the tables lent are an arc table
+--   path-rotates, path-stepped      a wanted path can be followed, and gives one pair more
+--   barrier-stepped                 no path: the reachable nodes are told
+use mathlib.Core.Path.{_≡_, refl, sym, ap, subst, _∙_}
+use mathlib.Core.Bool.{true, false}
+use mathlib.Core.List.{List}
+use Prim.Native.Nat.{ℕ, _+_, _*_, _≤_, _<_}
+use native.Mathlib.Numerals.{add-one}
+use native.Mathlib.Omega.{arith}
+use lib.ListN.{length, take, drop, replicate, length-replicate}
+use lib.Seq.{length-take-le}
+use Rattle.counting.specs.Pairs.{Pair, zipPairs}
+use Rattle.counting.proofs.Booleans.{true-false}
+use Rattle.skew.specs.Graph.{Graph, nodes, isWanted, isReachable, hasPath, canonical}
+use Rattle.skew.specs.Paths.{WellFormed}
+use Rattle.search.specs.Table.{graphOf, ArcTable}
+use Rattle.search.specs.Answer.{Answered}
+use Rattle.search.specs.declared.answer.Answer.{Answer}
+use Rattle.search.specs.declared.answer.Answer.the-variants.{Path, Barrier}
+use Rattle.matching.specs.Matching.{Matching}
+use Rattle.matching.specs.Rotation.{rotateAlong, Rotates, Augments}
+use Rattle.matching.specs.Row.{partnerIn}
+use Rattle.matching.specs.DoubledTable.{doubledTable}
+use Rattle.matching.proofs.DoubledTable.{table-well-formed}
+use Rattle.matching.proofs.Augmentation.{wanted-augments}
+use Rattle.pairing.specs.Table.{FitTable, Doubled}
+use Rattle.pairing.specs.Row.{tableGraph}
+use Rattle.pairing.specs.Plan.{reachedIn, Stepped}
+
+pub front-length : (n k : ℕ) → n ≤ 127 → k ≡ n → length (take (2 * (n + 1)) (replicate {A = ℕ} 256 0)) ≡ 2 * (k + 1)
+front-length n k h e =
+    length-take-le (2 * (n + 1)) (replicate {A = ℕ} 256 0) (omega (arith, length-replicate {A = ℕ} 256 0)) ∙ omega arith
+
+pub path-answer : (g : Graph) (a : Answer) (k : ℕ) (path rs cs : List ℕ) → a ≡ Path k → Answered g a path rs cs → (k < nodes g) × (isWanted g (take k path) ≡ true)
+path-answer g a k path rs cs e A = subst (λ (z : Answer). Answered g z path rs cs) e A
+
+pub barrier-answer : (g : Graph) (a : Answer) (path rs cs : List ℕ) → a ≡ Barrier → Answered g a path rs cs →
+    (hasPath g ≡ false) × ((v : ℕ) → isReachable g v ≡ reachedIn rs v) × (cs ≡ canonical g)
+barrier-answer g a path rs cs e A = subst (λ (z : Answer). Answered g z path rs cs) e A
+
+module _ (row us vs ts hs : List ℕ) (r : ℕ) (T : FitTable (length row) us vs) (M : Matching (zipPairs us vs) (partnerIn row)) (D : Doubled row (zipPairs us vs) ts hs r) where
+  abbrev n : ℕ
+  n = length row
+
+  abbrev fs : List Pair
+  fs = zipPairs us vs
+
+  abbrev p : ℕ → ℕ
+  p = partnerIn row
+
+  -- as the code counts the pairs of nodes
+  abbrev g : Graph
+  g = graphOf (n + 1) (2 * n) (take r ts) (take r hs)
+
+  same : g ≡ doubledTable n fs p
+  same = ap (λ (k : ℕ). graphOf k (2 * n) (take r ts) (take r hs)) (add-one n) ∙ D .graph
+
+  pub as-long : length (take r hs) ≡ length (take r ts)
+  as-long = length-take-le r hs (D .heads) ∙ sym (length-take-le r ts (D .tails))
+
+  pub arc-table : ArcTable (n + 1) (2 * n) (take r ts) (take r hs)
+  arc-table =
+      record {
+        well-formed = subst (λ (h : Graph). WellFormed h) (sym same) (table-well-formed n fs (T .fits) p M);
+        as-long = as-long;
+        pairs-few = omega (arith, T .cameras-few);
+        arcs-few = omega (arith, length-take-le r ts (D .tails), D .few);
+      }
+
+  module _ (P : List ℕ) (w : isWanted g P ≡ true) where
+    followed : Rotates n (doubledTable n fs p) (drop 1 P) p × Augments n fs p (rotateAlong (doubledTable n fs p) (drop 1 P) p)
+    followed = wanted-augments n fs (T .fits) p M P (subst (λ (h : Graph). isWanted h P ≡ true) same w)
+
+    pub path-rotates : Rotates n (tableGraph row (take r ts) (take r hs)) (drop 1 P) p
+    path-rotates = subst (λ (h : Graph). Rotates n h (drop 1 P) p) (sym (D .graph)) (followed .0)
+
+    pub path-stepped : (row′ rs : List ℕ) → partnerIn row′ ≡ rotateAlong (tableGraph row (take r ts) (take r hs)) (drop 1 P) p → Stepped fs row row′ rs true
+    path-stepped row′ rs e =
+        record {
+          more = λ t.
+              subst (λ (q : ℕ → ℕ). Augments n fs p q) (sym (e ∙ ap (λ (h : Graph). rotateAlong h (drop 1 P) p) (D .graph))) (followed .1);
+          none = λ t. true-false refl t;
+        }
+
+  pub barrier-stepped : (rs : List ℕ) → hasPath g ≡ false → ((v : ℕ) → isReachable g v ≡ reachedIn rs v) → Stepped fs row row rs false
+  barrier-stepped rs e reached =
+      record {
+        more = λ t. true-false t refl;
+        none = λ t. (
+          refl,
+          record {
+            no-path = subst (λ (h : Graph). hasPath h ≡ false) same e;
+            reached = λ v l. subst (λ (h : Graph). reachedIn rs v ≡ isReachable h v) same (sym (reached v));
+          },
+        );
+      }
