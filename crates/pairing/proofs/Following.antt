@@ -12,7 +12,7 @@ use Rattle.search.proofs.Tables.{arcs-length, tail-is, head-is}
 use Rattle.matching.specs.Rotation.{rotate, rotateAlong, Rotates}
 use Rattle.matching.specs.Row.{partnerIn, rotateRow}
 use Rattle.matching.proofs.Rows.{row-partner, length-rotate, rotate-row}
-use Rattle.pairing.specs.Row.{tableGraph, Following, Turn}
+use Rattle.pairing.specs.Row.{tableGraph, Following, NextRotation}
 
 pub following-start : (ts hs path row : List ℕ) → Rotates (length row) (tableGraph row ts hs) (drop 1 path) (partnerIn row) → Following ts hs path row 1 row
 following-start ts hs path row R = record { long = refl; rotates = R; rest = refl }
@@ -26,7 +26,7 @@ module _ (ts hs path row₀ : List ℕ) (i : ℕ) (row : List ℕ) where
       let e : i + 2 ≡ suc (suc i) = omega arith in
       rw e (drop-cons path i 0 (omega arith) ∙ ap (λ (l : List ℕ). getD path i 0 ∷ l) (drop-cons path (suc i) 0 (omega arith)))
 
-  pub following-turn : i + 1 < length path → Following ts hs path row₀ i row → Turn ts hs path row₀ i row
+  pub following-turn : i + 1 < length path → Following ts hs path row₀ i row → NextRotation ts hs path row₀ i row
   unfolding rotateAlong
   following-turn h F =
       let e = getD path i 0 in

@@ -1,7 +1,7 @@
 -- Loops over a row of partners.
 --   tableGraph row ts hs              the graph of an arc table that belongs to the row
 --   Following ts hs path row₀ i row   the rotations of the path up to its arc i are done
---   Turn                              one more rotation: its cameras are in the row, and what is done then
+--   NextRotation                      one more rotation: its cameras are in the row, and what is done then
 --   pairsLeft row k                   the pairs of the cameras from k on
 use mathlib.Core.Path.{_≡_}
 use mathlib.Core.List.{List}
@@ -23,7 +23,7 @@ pub record Following (ts hs path row₀ : List ℕ) (i : ℕ) (row : List ℕ) :
   pub rotates : Rotates (length row₀) (tableGraph row₀ ts hs) (drop i path) (partnerIn row)
   pub rest : rotateAlong (tableGraph row₀ ts hs) (drop i path) (partnerIn row) ≡ rotateAlong (tableGraph row₀ ts hs) (drop 1 path) (partnerIn row₀)
 
-pub record Turn (ts hs path row₀ : List ℕ) (i : ℕ) (row : List ℕ) : Type 0 where
+pub record NextRotation (ts hs path row₀ : List ℕ) (i : ℕ) (row : List ℕ) : Type 0 where
   pub arc : getD path i 0 < length ts
   pub first : getD ts (getD path i 0) 0 / 2 < length row
   pub second : getD hs (getD path i 0) 0 / 2 < length row

@@ -39,7 +39,7 @@ pub fn augment(row: &mut [u8], tails: &[u8], heads: &[u8], path: &[usize])
 }
 
 // Every camera unlit.
-fn unlight(row: &mut [u8])
+fn clear_row(row: &mut [u8])
     requires { ⌜ length (now row) ≤ 127 ⌝ }
     ensures { λ r. ⌜ partnerIn (now (row .exit)) ≡ partner [] ⌝ }
 {
@@ -51,7 +51,7 @@ fn unlight(row: &mut [u8])
 }
 
 // The pairs lit, the last first, so that a camera's first pair counts.
-fn light(row: &mut [u8], us: &[u8], vs: &[u8])
+fn light_pairs(row: &mut [u8], us: &[u8], vs: &[u8])
     requires { ⌜ PairTable (length (now row)) (now us) (now vs) ⌝ }
     requires { ⌜ partnerIn (now row) ≡ partner [] ⌝ }
     ensures { λ r. ⌜ partnerIn (now (row .exit)) ≡ partner (zipPairs (now (us .entry)) (now (vs .entry))) ⌝ }
@@ -72,8 +72,8 @@ pub fn row_of(row: &mut [u8], us: &[u8], vs: &[u8])
     requires { ⌜ PairTable (length (now row)) (now us) (now vs) ⌝ }
     ensures { λ r. ⌜ partnerIn (now (row .exit)) ≡ partner (zipPairs (now (us .entry)) (now (vs .entry))) ⌝ }
 {
-    unlight(row);
-    light(row, us, vs);
+    clear_row(row);
+    light_pairs(row, us, vs);
 }
 
 // Camera u with its partner v, where that is the larger.

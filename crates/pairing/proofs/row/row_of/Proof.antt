@@ -7,13 +7,13 @@ use Rattle.pairing.specs.Table.{PairTable}
 use Rattle.pairing.proofs.row.row_of.Statement.{statement}
 use Rattle.pairing.proofs.row.row_of.Tie as tie
 
-unlight-requires : tie.Need-unlight-requires
-unlight-requires c κs = search needs
+clear-row-requires : tie.Need-clear-row-requires
+clear-row-requires c κs = search needs
 
-light-requires : tie.Need-light-requires
-light-requires c κs =
+light-pairs-requires : tie.Need-light-pairs-requires
+light-pairs-requires c κs =
     let S = c .before .before .before .before .before .before .before .before in
-    (subst (λ (n : ℕ). PairTable n (now (S .args .us)) (now (S .args .vs))) (sym (c .before .before .before .unlight .kept .0)) (S .pre .1), c .before .before .before .unlight .ensures)
+    (subst (λ (n : ℕ). PairTable n (now (S .args .us)) (now (S .args .vs))) (sym (c .before .before .before .clear-row .kept .0)) (S .pre .1), c .before .before .before .clear-row .ensures)
 
 same-length : tie.Need-same-length
 same-length c = search needs
@@ -22,4 +22,4 @@ returns : tie.Need-returns
 returns c = search needs
 
 pub row-of-spec : {M : Type 1} → statement M
-row-of-spec = tie.close (tie.spec unlight-requires light-requires same-length returns)
+row-of-spec = tie.close (tie.spec clear-row-requires light-pairs-requires same-length returns)

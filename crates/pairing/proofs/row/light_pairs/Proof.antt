@@ -10,8 +10,8 @@ use Rattle.matching.specs.Matching.{partner}
 use Rattle.matching.specs.Row.{partnerIn}
 use Rattle.matching.proofs.Rows.{length-light}
 use Rattle.pairing.proofs.Lighting.{lit-none, lit-one}
-use Rattle.pairing.proofs.row.light.Statement.{statement}
-use Rattle.pairing.proofs.row.light.Tie as tie
+use Rattle.pairing.proofs.row.light_pairs.Statement.{statement}
+use Rattle.pairing.proofs.row.light_pairs.Tie as tie
 
 abbrev Inv-loop : tie.InvT-loop
 Inv-loop row₀ us vs i₀ row i = (i ≤ length us) × (length row ≡ length row₀) × (partnerIn row ≡ partner (drop i (zipPairs us vs)))
@@ -75,8 +75,8 @@ returns c =
     let e : l .i ≡ 0 = omega arith in
     l .inv .2 ∙ ap (λ (m : ℕ). partner (drop m (zipPairs (now (c .before .before .args .us)) (now (c .before .before .args .vs))))) e
 
-pub light-spec : {M : Type 1} → statement M
-light-spec =
+pub light-pairs-spec : {M : Type 1} → statement M
+light-pairs-spec =
     tie.close
     (tie.spec
     Inv-loop

@@ -6,8 +6,8 @@ use lib.ListN.{length, getD, length-set}
 use borrow.Author.Needs.{needs}
 use Rattle.matching.proofs.Rows.{own-row}
 use Rattle.pairing.proofs.Stores.{filled-more}
-use Rattle.pairing.proofs.row.unlight.Statement.{statement}
-use Rattle.pairing.proofs.row.unlight.Tie as tie
+use Rattle.pairing.proofs.row.clear_row.Statement.{statement}
+use Rattle.pairing.proofs.row.clear_row.Tie as tie
 
 abbrev Inv-loop : tie.InvT-loop
 Inv-loop row₀ k₀ row k = (k ≤ length row) × (length row ≡ length row₀) × ((j : ℕ) → j < k → getD row j 0 ≡ j)
@@ -43,8 +43,8 @@ returns c =
     let l = c .before .loop in
     own-row (l .row) (λ k h. l .inv .2 k (omega arith))
 
-pub unlight-spec : {M : Type 1} → statement M
-unlight-spec =
+pub clear-row-spec : {M : Type 1} → statement M
+clear-row-spec =
     tie.close
     (tie.spec
     Inv-loop
