@@ -3,7 +3,7 @@
 //   table      the doubled table of a row
 //   marks      marks read off a table of reached nodes
 //   plan       largest pairings: plans and standing sheets
-pub mod marks;
+mod marks;
 pub mod plan;
 pub mod row;
-pub mod table;
+mod table;
