@@ -14,6 +14,7 @@
 --   CertificateFiles the questions of a certificate
 --   ArcTables        a graph that was read, as the search takes it
 --   Verdicts         the check's answer
+--   GraphCalls       what the graph call answers
 pub mod Marked
 pub mod Scans
 pub mod Tables
@@ -29,3 +30,4 @@ pub mod StockFiles
 pub mod CertificateFiles
 pub mod ArcTables
 pub mod Verdicts
+pub mod GraphCalls

@@ -8,6 +8,7 @@
 --   Readers            what reading a file answers, and holds in lent slices
 --   CertificateReaders the same of a certificate
 --   Verdicts           the check's answer, part by part
+--   GraphCalls         what the graph call answers, by value
 --   Promise            what is promised of every file: demands 2 and 3, and the marked set
 pub mod Tables
 pub mod GraphFile
@@ -18,4 +19,5 @@ pub mod Answers
 pub mod Readers
 pub mod CertificateReaders
 pub mod Verdicts
+pub mod GraphCalls
 pub mod Promise

@@ -28,20 +28,20 @@ fn put_numbered(out: &mut [u8], at: usize, kind: usize, values: &[u8]) -> usize
 }
 
 // A frame for each arc number.
-fn put_arcs(out: &mut [u8], at: usize, arcs: &[u16]) -> usize
+fn put_arcs(out: &mut [u8], at: usize, arcs: &[usize]) -> usize
     requires { ⌜ at + 7 * length (now arcs) ≤ length (now out) ⌝ }
     ensures { λ r. ⌜ Written (now (out .entry)) at (7 * length (now (arcs .entry))) (eachLine (λ (i : ℕ) (x : ℕ). frameOf4 34 x) 0 (now (arcs .entry))) (now (out .exit)) r ⌝ }
 {
     let mut next = at;
     let mut i: usize = 0;
     while i < arcs.len() {
-        next = put_frame_of4(out, next, 0x22, arcs[i] as usize);
+        next = put_frame_of4(out, next, 0x22, arcs[i]);
         i += 1;
     }
     next
 }
 
-pub fn put_path(out: &mut [u8], arcs: &[u16]) -> usize
+pub fn put_path(out: &mut [u8], arcs: &[usize]) -> usize
     requires { ⌜ 10 + 7 * length (now arcs) ≤ length (now out) ⌝ }
     ensures { λ r. ⌜ WrittenFirst (pathText (now (arcs .entry))) (now (out .entry)) (now (out .exit)) r ⌝ }
 {

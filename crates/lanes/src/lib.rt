@@ -2,6 +2,7 @@
 //   questions    questions 9 to 14, over the numbers of a file
 //   answers      answers written into a lent buffer
 //   graphs       graph files read
+//   graph_calls  a graph answered with a path or a barrier
 //   stocks       stock files read
 //   certificates paths and barriers read
 //   check        the call that checks a certificate
@@ -10,6 +11,7 @@ pub mod answers;
 pub mod certificates;
 pub mod check;
 pub mod counts;
+pub mod graph_calls;
 pub mod graphs;
 pub mod questions;
 pub mod stocks;
@@ -34,6 +36,12 @@ pub enum Outcome {
 pub struct Told {
     pub number: u8,
     pub size: u32,
+}
+
+// What a call answers and the tally then, by value.
+pub struct Answer {
+    pub told: Told,
+    pub tally: Tally,
 }
 
 // The check's answer.

@@ -1,6 +1,5 @@
 -- `lanes::answers::put_arcs` meets its contract: i lines are written. Assumes nothing.
 use Prim.Native.Nat.{ℕ, _-_}
-use native.Mathlib.Omega.{arith}
 use lib.ListN.{length}
 use Rattle.frames.specs.Frames.{frameOf4}
 use Rattle.frames.proofs.Writes.{frameOf4-length}
@@ -24,9 +23,6 @@ mul-put-frame-of4 c = search needs
 
 shared-slice-read-put-frame-of4 : tie.Need-shared-slice-read-put-frame-of4 Inv-loop μ-loop
 shared-slice-read-put-frame-of4 c = search needs
-
-cast-put-frame-of4 : tie.Need-cast-put-frame-of4 Inv-loop μ-loop
-cast-put-frame-of4 c = omega (arith, c .shared-slice-known2 .given (c .before .before .before .loop .i))
 
 put-frame-of4-requires : tie.Need-put-frame-of4-requires Inv-loop μ-loop
 put-frame-of4-requires c κs = search needs
@@ -56,7 +52,6 @@ put-arcs-spec =
     loop-holds
     mul-put-frame-of4
     shared-slice-read-put-frame-of4
-    cast-put-frame-of4
     put-frame-of4-requires
     add-i
     loop-less
