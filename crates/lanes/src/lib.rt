@@ -16,6 +16,10 @@ pub mod graphs;
 pub mod questions;
 pub mod stocks;
 
+use graph_calls::answer_graph_by;
+ghost use mathlib.Core.Path.{_≡_};
+ghost use Rattle.lanes.specs.Entry.{GraphOwes, graphTally};
+
 // Counts of what the calls answered (document 01, "Questions put to a call"); a count at its largest stays there.
 pub struct Tally {
     pub paths: u32,
@@ -49,4 +53,14 @@ pub enum Verdict {
     Refused(u8),
     Yes,
     No,
+}
+
+// A graph answered with some regular path from its source to the source's mate, or with the canonical barrier.
+pub fn answer_graph(file: &[u8], out: &mut [u8], tally: &mut Tally) -> Told
+    ensures { λ r. ⌜ GraphOwes (now (file .entry)) (now (out .entry)) r (now (out .exit)) ⌝ }
+    ensures tally { λ r. ⌜ now (tally .exit) ≡ graphTally (now (file .entry)) (now (out .entry)) (now (tally .entry)) ⌝ }
+{
+    let r = answer_graph_by(file, out, *tally);
+    *tally = r.tally;
+    r.told
 }
