@@ -1,6 +1,8 @@
 -- Lines of an answer, seven bytes for each value, written one behind the other. Assumes nothing.
 --   writing-start, writing-step, writing-end    none is written; one more is; all are
 --   class-lines, mark-lines, path-lines         document 03's lines are such lines
+--   plan-text                                   and so are a plan's, by first cameras, the second ones looked up
+--   plan-size, sheet-size                       how many bytes a plan and a standing sheet take
 --   first-written                               three parts written one behind the other from the front on, as document 03 has it
 use mathlib.Core.Path.{_≡_, refl, ap, sym, _∙_}
 use mathlib.Core.List.{List, [], _∷_, _++_}
@@ -8,11 +10,13 @@ use Prim.Native.Nat.{ℕ, suc, _+_, _*_, _≤_, _<_}
 use native.Mathlib.Omega.{arith}
 use native.Mathlib.Numerals.{add-one}
 use lib.ListN.{length, getD, drop, length-append, drop-of-length-le}
-use lib.Seq.{length-sets}
-use Rattle.frames.specs.Frames.{frame6, frameOf4}
+use lib.Seq.{length-sets, drop-cons}
+use Rattle.counting.specs.Pairs.{Pair, zipPairs}
+use Rattle.counting.proofs.Zips.{zip-length}
+use Rattle.frames.specs.Frames.{frame4, frame6, frameOf4}
 use Rattle.frames.specs.Writes.{Written}
-use Rattle.frames.proofs.Writes.{written-rest, written-then, written-over}
-use Rattle.lanes.specs.StockFile.{markLines}
+use Rattle.frames.proofs.Writes.{written-rest, written-then, written-over, hexBytes-length, frame6-length}
+use Rattle.lanes.specs.StockFile.{markLines, planLines, planText}
 use Rattle.lanes.specs.CertificateFile.{pathLines, classLines}
 use Rattle.lanes.specs.Answers.{eachLine, Writing, WrittenFirst}
 use Rattle.lanes.proofs.Scans.{drop-next}
@@ -65,6 +69,33 @@ pub path-lines : (n : ℕ) (is : List ℕ) → eachLine (λ (i : ℕ) (x : ℕ).
 unfolding eachLine pathLines
 path-lines n [] = refl
 path-lines n (i ∷ is) = ap (λ (t : List ℕ). frameOf4 34 i ++ t) (path-lines (suc n) is)
+
+pair-lines : (n : ℕ) (us vs : List ℕ) → n + length us ≡ length vs →
+    eachLine (λ (i : ℕ) (x : ℕ). frame6 82 x (getD vs i 0)) n us ≡ planLines (zipPairs us (drop n vs))
+unfolding eachLine planLines zipPairs
+pair-lines n [] vs h = refl
+pair-lines n (u ∷ us) vs h =
+    let e : drop n vs ≡ getD vs n 0 ∷ drop (suc n) vs = drop-cons vs n 0 (omega arith) in
+    rw e (ap (λ (t : List ℕ). frame6 82 u (getD vs n 0) ++ t) (pair-lines (suc n) us vs (omega arith)))
+
+pub plan-text : (us vs : List ℕ) → length vs ≡ length us →
+    frame4 81 (length us) ++ eachLine (λ (i : ℕ) (x : ℕ). frame6 82 x (getD vs i 0)) 0 us ++ frameOf4 95 (length us) ≡ planText (zipPairs us vs)
+plan-text us vs e = rw (pair-lines 0 us vs (omega arith), zip-length us vs e)
+
+-- SIZES
+plan-lines-length : (ps : List Pair) → length (planLines ps) ≡ 7 * length ps
+unfolding planLines
+plan-lines-length [] = refl
+plan-lines-length (x ∷ xs) = simp (length-append, hexBytes-length) (omega (arith, plan-lines-length xs))
+
+pub plan-size : (ps : List Pair) → length (planText ps) ≡ 12 + 7 * length ps
+plan-size ps = simp (length-append, hexBytes-length) (omega (arith, plan-lines-length ps))
+
+mark-lines-length : (u : ℕ) (ms : List ℕ) → length (markLines u ms) ≡ 7 * length ms
+mark-lines-length u ms = rw (mark-lines u ms) at (each-length (frame6 67) u ms (frame6-length 67))
+
+pub sheet-size : (pairs cameras : ℕ) (ms : List ℕ) → length (frame4 65 pairs ++ markLines 0 ms ++ frameOf4 79 cameras) ≡ 12 + 7 * length ms
+sheet-size k n ms = simp (length-append, hexBytes-length) (omega (arith, mark-lines-length 0 ms))
 
 -- THREE PARTS: header, body and end frame
 pub first-written : {l₀ l₁ l₂ l₃ x y z : List ℕ} {a b c p q r : ℕ} → Written l₀ 0 a x l₁ p → Written l₁ p b y l₂ q → Written l₂ q c z l₃ r →
