@@ -1,7 +1,8 @@
 -- What the questions settle of a file that none of them refuses. Assumes nothing.
 --   accepted-graph                the graph is well formed
 --   graph-few                     it has at most 128 mate pairs and 8,192 arcs
---   accepted-stock, stock-few     the stock is well formed, and has at most 127 cameras
+--   accepted-stock                the stock is well formed
+--   stock-few, fits-few           it has at most 127 cameras and 3,900 fits
 use mathlib.Core.Path.{_≡_}
 use mathlib.Core.Bool.{true, _&&_}
 use mathlib.Core.List.{List}
@@ -22,7 +23,7 @@ use Rattle.matching.specs.Promise.{pairNamed, WellFormedStock}
 use Rattle.lanes.specs.GraphFile as graph
 use Rattle.lanes.specs.GraphFile.{graphIn, arcNamed, graphFault}
 use Rattle.lanes.specs.StockFile as stock
-use Rattle.lanes.specs.StockFile.{stockIn, stockFault}
+use Rattle.lanes.specs.StockFile.{stockIn, pairsFault, stockFault}
 use mathlib.Core.Bool.{Bool}
 
 -- question 5 was answered yes
@@ -72,10 +73,16 @@ module _ (f : List ℕ) (e : stockFault f ≡ 0) where
   pub stock-few : stockIn f .cameras ≤ 127
   stock-few = leb-true _ _ (header-fits stockForm f (stock.headerFits f) (or-none (shapeFault stockForm f (stock.headerFits f)) _ e .0))
 
+  past7 : orElse (unless (leb (length (stockIn f .fits)) 3900) 8) (pairsFault (stockIn f .cameras) (stockIn f .fits) (stockIn f .lit)) ≡ 0
+  past7 = or-none (shapeFault stockForm f (stock.headerFits f)) _ e .1
+
+  pub fits-few : length (stockIn f .fits) ≤ 3900
+  fits-few = leb-true _ _ (unless-none _ 7 (or-none _ _ past7 .0))
+
   pub accepted-stock : WellFormedStock (stockIn f)
   accepted-stock =
       let fits = all (pairNamed (stockIn f .cameras)) (stockIn f .fits) in
-      let past8 = or-none (unless (leb (length (stockIn f .fits)) 3900) 8) _ (or-none (shapeFault stockForm f (stock.headerFits f)) _ e .1) .1 in
+      let past8 = or-none (unless (leb (length (stockIn f .fits)) 3900) 8) _ past7 .1 in
       let past9 = or-none (unless (fits && all (pairNamed (stockIn f .cameras)) (stockIn f .lit)) 9) _ past8 in
       let past11 = or-none (unless (pairsRise (stockIn f .fits)) 11) _ (past9 .1) in
       let past12 = or-none (unless (pairsRise (stockIn f .lit)) 12) _ (past11 .1) in

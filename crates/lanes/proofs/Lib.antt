@@ -15,6 +15,7 @@
 --   ArcTables        a graph that was read, as the search takes it
 --   Verdicts         the check's answer
 --   GraphCalls       what the graph call answers
+--   StockCalls       what the stock calls answer
 pub mod Marked
 pub mod Scans
 pub mod Tables
@@ -31,3 +32,4 @@ pub mod CertificateFiles
 pub mod ArcTables
 pub mod Verdicts
 pub mod GraphCalls
+pub mod StockCalls

@@ -9,6 +9,7 @@
 --   CertificateReaders the same of a certificate
 --   Verdicts           the check's answer, part by part
 --   GraphCalls         what the graph call answers, by value
+--   StockCalls         what the stock calls answer, each in one record
 --   Promise            what is promised of every file: demands 2 and 3, and the marked set
 pub mod Tables
 pub mod GraphFile
@@ -20,4 +21,5 @@ pub mod Readers
 pub mod CertificateReaders
 pub mod Verdicts
 pub mod GraphCalls
+pub mod StockCalls
 pub mod Promise

@@ -4,6 +4,7 @@
 //   graphs       graph files read
 //   graph_calls  a graph answered with a path or a barrier
 //   stocks       stock files read
+//   stock_calls  a stock answered with a plan or a standing sheet
 //   certificates paths and barriers read
 //   check        the call that checks a certificate
 //   counts       the tally, counted up
@@ -14,11 +15,14 @@ pub mod counts;
 pub mod graph_calls;
 pub mod graphs;
 pub mod questions;
+pub mod stock_calls;
 pub mod stocks;
 
 use graph_calls::answer_graph_by;
+use stock_calls::plan_by;
+use stock_calls::sheet_by;
 ghost use mathlib.Core.Path.{_≡_};
-ghost use Rattle.lanes.specs.Entry.{GraphOwes, graphTally};
+ghost use Rattle.lanes.specs.Entry.{GraphOwes, graphTally, PlanOwes, sheetPost, sheetLeaves, stockTally};
 
 // Counts of what the calls answered (document 01, "Questions put to a call"); a count at its largest stays there.
 pub struct Tally {
@@ -61,6 +65,27 @@ pub fn answer_graph(file: &[u8], out: &mut [u8], tally: &mut Tally) -> Told
     ensures tally { λ r. ⌜ now (tally .exit) ≡ graphTally (now (file .entry)) (now (out .entry)) (now (tally .entry)) ⌝ }
 {
     let r = answer_graph_by(file, out, *tally);
+    *tally = r.tally;
+    r.told
+}
+
+// A stock answered with a plan: which largest one is left free.
+pub fn plan(file: &[u8], out: &mut [u8], tally: &mut Tally) -> Told
+    ensures { λ r. ⌜ PlanOwes (now (file .entry)) (now (out .entry)) r (now (out .exit)) ⌝ }
+    ensures tally { λ r. ⌜ now (tally .exit) ≡ stockTally (now (file .entry)) (now (out .entry)) (now (tally .entry)) ⌝ }
+{
+    let r = plan_by(file, out, *tally);
+    *tally = r.tally;
+    r.told
+}
+
+// A stock answered with its standing sheet.
+pub fn sheet(file: &[u8], out: &mut [u8], tally: &mut Tally) -> Told
+    ensures { λ r. ⌜ r ≡ sheetPost (now (file .entry)) (now (out .entry)) ⌝ }
+    ensures out { λ r. ⌜ now (out .exit) ≡ sheetLeaves (now (file .entry)) (now (out .entry)) ⌝ }
+    ensures tally { λ r. ⌜ now (tally .exit) ≡ stockTally (now (file .entry)) (now (out .entry)) (now (tally .entry)) ⌝ }
+{
+    let r = sheet_by(file, out, *tally);
     *tally = r.tally;
     r.told
 }

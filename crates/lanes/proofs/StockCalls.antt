@@ -1,0 +1,135 @@
+-- What the stock calls answer: the questions of a file settle what a search takes, and what is written is what they owe. Assumes nothing.
+--   pairs-few, listed-few             a row has no more pairs than cameras, and at most 127
+--   plan-written, sheet-written       what is written, and its size
+--   cameras-few, stock-table          an accepted file as it was read: what a search takes
+--   room-refused, file-refused        the question that refuses: the first, or one of the file's
+--   plan-refused, sheet-refused       what a refused call owes
+--   plan-answered, sheet-answered     what an answered call owes
+use mathlib.Core.Path.{_≡_, refl, sym, ap, subst, _∙_}
+use mathlib.Core.Bool.{true, false}
+use mathlib.Core.List.{List, [], _∷_, _++_}
+use Prim.Native.Nat.{ℕ, _≤_, _<_}
+use native.Mathlib.Omega.{arith}
+use lib.Dec.{ltb, eqb}
+use borrow.Author.Tests.{ne-eqb, le-leb, lt-leb}
+use lib.ListN.{length, take}
+use lib.Seq.{length-take-le}
+use Rattle.counting.specs.Tests.{below}
+use Rattle.counting.specs.Pairs.{Pair, pairsOf}
+use Rattle.counting.proofs.Booleans.{by-test, true-false}
+use Rattle.counting.proofs.Range.{length-up}
+use Rattle.frames.specs.Frames.{frame4, frameOf4}
+use Rattle.matching.specs.Stock.{Stock, isPlan}
+use Rattle.matching.specs.Matching.{pairsInOrder}
+use Rattle.matching.specs.Promise.{WellFormedStock}
+use Rattle.pairing.specs.Table.{stockOf, Listed}
+use Rattle.pairing.specs.Plan.{StockTable, Sheet}
+use Rattle.lanes.specs.StockFile.{markLines, stockIn, stockFault, planText}
+use Rattle.lanes.specs.Answers.{WrittenFirst}
+use Rattle.lanes.specs.Entry.{sheetFault}
+use Rattle.lanes.specs.Readers.{StockRead}
+use Rattle.lanes.specs.StockCalls.{refusal, stockAnswer, PlanWritten, SheetWritten, PlanAnswered, SheetAnswered}
+use Rattle.lanes.specs.declared.Tally.{Tally}
+use Rattle.lanes.specs.declared.Answer.{Answer}
+use Rattle.lanes.proofs.Tables.{pairs-length}
+use Rattle.lanes.proofs.AcceptedFiles.{accepted-stock, stock-few, fits-few}
+use Rattle.lanes.proofs.AnswerLines.{plan-size, sheet-size}
+
+-- WRITTEN
+pub pairs-few : (p : ℕ → ℕ) (ks : List ℕ) → length (pairsInOrder p ks) ≤ length ks
+unfolding pairsInOrder
+pairs-few p [] = omega arith
+pairs-few p (k ∷ ks) =
+    let h = pairs-few p ks in
+    by-test (ltb k (p k)) (λ t. rw t (omega arith)) (λ t. rw t (omega arith))
+
+module _ (p : ℕ → ℕ) (n : ℕ) (few : n ≤ 127) {us vs : List ℕ} {r : ℕ} (l : Listed us vs r (pairsInOrder p (below n))) where
+  pub listed-few : r ≤ 127
+  listed-few = omega (arith, l .count, pairs-few p (below n), length-up 0 n)
+
+  pub plan-written : {s : Stock} {before after : List ℕ} {size : ℕ} (m : ℕ) → n ≡ m → isPlan s (pairsInOrder p (below m)) ≡ true →
+      WrittenFirst (planText (pairsOf r us vs)) before after size → PlanWritten s before after size
+  plan-written m same e w =
+      record {
+        pairs = pairsOf r us vs;
+        plan = rw (l .pairs, same) e;
+        written = w;
+        small = omega (arith, w .told, plan-size (pairsOf r us vs), ap (λ (xs : List Pair). length xs) (l .pairs), l .count, listed-few);
+      }
+
+pub sheet-written : {n : ℕ} {fs : List Pair} {ms before after : List ℕ} {k size : ℕ} → n ≤ 127 → Sheet n fs ms k →
+    WrittenFirst (frame4 65 k ++ markLines 0 ms ++ frameOf4 79 (length ms)) before after size → length ms ≡ n → SheetWritten n fs before after size
+sheet-written {n} {fs} {ms} {k = k} h s w l =
+    record {
+      written = rw (l, s .count, s .marks) at w;
+      small = omega (arith, w .told, sheet-size k (length ms) ms);
+    }
+
+-- A FILE AS IT WAS READ
+module _ {f us vs xs ys : List ℕ} {number n k l : ℕ} (read : StockRead f us vs xs ys number n k l) (none : number ≡ 0) where
+  accepted : stockFault f ≡ 0
+  accepted = sym (read .says) ∙ none
+
+  pub cameras-few : n ≤ 127
+  cameras-few = omega (arith, read .held none .camerasAre, stock-few f accepted)
+
+  module _ (m : ℕ) (same : m ≡ n) where
+    stock-is : stockOf m (take k us) (take k vs) (take l xs) (take l ys) ≡ stockIn f
+    stock-is = let h = read .held none in rw (same, h .camerasAre, h .fitsAre, h .litAre)
+
+    pub stock-table : StockTable m (take k us) (take k vs) (take l xs) (take l ys)
+    stock-table =
+        let h = read .held none in
+        record {
+          as-long = length-take-le k vs (h .fitsRoom .second) ∙ sym (length-take-le k us (h .fitsRoom .first));
+          lit-as-long = length-take-le l ys (h .litRoom .second) ∙ sym (length-take-le l xs (h .litRoom .first));
+          cameras-few = omega (arith, cameras-few);
+          fits-few =
+              omega (arith, length-take-le k us (h .fitsRoom .first), pairs-length (h .fitsRoom), ap (λ (zs : List Pair). length zs) (h .fitsAre), fits-few f accepted);
+          well-formed = subst (λ (s : Stock). WellFormedStock s) (sym stock-is) (accepted-stock f accepted);
+        }
+
+-- THE CALLS
+pub room-refused : (f o : List ℕ) → length o < 2048 → sheetFault f o ≡ 1
+room-refused f o h = rw (lt-leb _ _ h)
+
+file-fault : (f o : List ℕ) → 2048 ≤ length o → sheetFault f o ≡ stockFault f
+file-fault f o h = rw (le-leb _ _ h)
+
+pub file-refused : (o : List ℕ) {f us vs xs ys : List ℕ} {number n k l : ℕ} → 2048 ≤ length o → StockRead f us vs xs ys number n k l →
+    sheetFault f o ≡ number
+file-refused o {f} h read = file-fault f o h ∙ sym (read .says)
+
+module _ {f o : List ℕ} {t : Tally} {r : Answer} where
+  module _ {n : ℕ} (e : sheetFault f o ≡ n) (no : n ≡ 0 → ⊥) (is : r ≡ refusal n t) where
+    pub plan-refused : PlanAnswered f o t (r .told) o (r .tally)
+    plan-refused =
+        let z : eqb n 0 ≡ false = ne-eqb n 0 no in
+        record {
+          owes = (λ _. (rw (is, e, z), refl), λ y. absurd (no (sym e ∙ y)));
+          tallied = rw (is, e, z);
+        }
+
+    pub sheet-refused : SheetAnswered f o t (r .told) o (r .tally)
+    sheet-refused =
+        let z : eqb n 0 ≡ false = ne-eqb n 0 no in
+        record { told = rw (is, e, z); leaves = rw (e, z); tallied = rw (is, e, z) }
+
+  module _ (room : 2048 ≤ length o) {us vs xs ys : List ℕ} {number n k l : ℕ} (read : StockRead f us vs xs ys number n k l) (none : number ≡ 0)
+      {m : ℕ} (same : m ≡ n) {after : List ℕ} {size : ℕ} (is : r ≡ stockAnswer size t) where
+    pub plan-answered : PlanWritten (stockOf m (take k us) (take k vs) (take l xs) (take l ys)) o after size → PlanAnswered f o t (r .told) after (r .tally)
+    plan-answered w =
+        let e : sheetFault f o ≡ 0 = file-fault f o room ∙ accepted read none in
+        let p : isPlan (stockIn f) (w .pairs) ≡ true = subst (λ (s : Stock). isPlan s (w .pairs) ≡ true) (stock-is read none m same) (w .plan) in
+        let z : eqb (sheetFault f o) 0 ≡ true = rw e in
+        record {
+          owes = (λ y. true-false z y, λ _. (w .pairs, (p, (rw (is, w .written .told), w .written .bytes))));
+          tallied = rw (is, e);
+        }
+
+    pub sheet-answered : SheetWritten m (pairsOf k us vs) o after size → SheetAnswered f o t (r .told) after (r .tally)
+    sheet-answered w =
+        let h = read .held none in
+        let e : sheetFault f o ≡ 0 = file-fault f o room ∙ accepted read none in
+        let v = rw (same, h .camerasAre, h .fitsAre) at (w .written) in
+        record { told = rw (is, e, v .told); leaves = rw e (v .bytes); tallied = rw (is, e) }

@@ -1,0 +1,13 @@
+-- `lanes::stock_calls::refuse` meets its contract. Assumes nothing.
+use borrow.Author.Needs.{needs}
+use Rattle.lanes.proofs.stock_calls.refuse.Statement.{statement}
+use Rattle.lanes.proofs.stock_calls.refuse.Tie as tie
+
+counted-requires : tie.Need-counted-requires
+counted-requires c κs = search needs
+
+returns : tie.Need-returns
+returns c = rw (c .counted .ensures)
+
+pub refuse-spec : {M : Type 1} → statement M
+refuse-spec = tie.close (tie.spec counted-requires returns)
