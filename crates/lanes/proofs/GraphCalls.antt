@@ -23,11 +23,11 @@ use Rattle.skew.specs.Paths.{WellFormed}
 use Rattle.skew.proofs.Promise.{reaches-by-paths}
 use Rattle.lanes.specs.GraphFile.{graphIn, graphFault}
 use Rattle.lanes.specs.CertificateFile.{pathLines, pathText, classLines, barrierText}
-use Rattle.lanes.specs.Entry.{answerFault}
+use Rattle.lanes.specs.Entry.{answerFault, refusal}
 use Rattle.lanes.specs.Answers.{WrittenFirst}
 use Rattle.lanes.specs.Readers.{GraphRead}
 use Rattle.lanes.proofs.ArcTables.{held-graph, held-table}
-use Rattle.lanes.specs.GraphCalls.{refusal, graphAnswer, GraphWritten, GraphAnswered}
+use Rattle.lanes.specs.GraphCalls.{graphAnswer, GraphWritten, GraphAnswered}
 use Rattle.lanes.specs.declared.Tally.{Tally}
 use Rattle.lanes.specs.declared.Answer.{Answer}
 

@@ -26,9 +26,9 @@ use Rattle.pairing.specs.Table.{stockOf, Listed}
 use Rattle.pairing.specs.Plan.{StockTable, Sheet}
 use Rattle.lanes.specs.StockFile.{markLines, stockIn, stockFault, planText}
 use Rattle.lanes.specs.Answers.{WrittenFirst}
-use Rattle.lanes.specs.Entry.{sheetFault}
+use Rattle.lanes.specs.Entry.{sheetFault, refusal}
 use Rattle.lanes.specs.Readers.{StockRead}
-use Rattle.lanes.specs.StockCalls.{refusal, stockAnswer, PlanWritten, SheetWritten, PlanAnswered, SheetAnswered}
+use Rattle.lanes.specs.StockCalls.{stockAnswer, PlanWritten, SheetWritten, PlanAnswered, SheetAnswered}
 use Rattle.lanes.specs.declared.Tally.{Tally}
 use Rattle.lanes.specs.declared.Answer.{Answer}
 use Rattle.lanes.proofs.Tables.{pairs-length}

@@ -4,6 +4,7 @@
 --   over new old                                      a buffer with new bytes at the front, the others as they were
 --   told                                              a call's result: its refusal, or 0 and the answer's size
 --   raised, counted, tallied                          one more, where a count is not at its largest; of the counts named; by outcome
+--   refusal                                           a refused call's result and tally
 --   GraphOwes, graphTally                             a graph's answer: some path, or the canonical barrier
 --   checkPost, verdictLine                            the check's answer, and the line that says it
 --   PlanOwes                                          a stock's plan: which largest one is left free
@@ -27,6 +28,7 @@ use Rattle.lanes.specs.declared.Tally.{Tally}
 use Rattle.lanes.specs.declared.Outcome.{Outcome}
 use Rattle.lanes.specs.declared.Outcome.the-variants.{Path, Barrier, Stock, Refusal}
 use Rattle.lanes.specs.declared.Told.{Told}
+use Rattle.lanes.specs.declared.Answer.{Answer}
 use Rattle.lanes.specs.declared.Verdict.{Verdict}
 use Rattle.lanes.specs.declared.Verdict.the-variants.{Refused, Yes, No}
 
@@ -65,6 +67,10 @@ tallied t Path = counted t true false false false
 tallied t Barrier = counted t false true false false
 tallied t Stock = counted t false false true false
 tallied t Refusal = counted t false false false true
+
+-- a refused call, by value
+abbrev pub refusal : (number : ℕ) → Tally → Answer
+refusal n t = record { told = record { number = n; size = 0 }; tally = tallied t Refusal }
 
 -- A GRAPH: some regular path, or the canonical barrier; which path is left free
 abbrev pub answerFault : (file buffer : List ℕ) → ℕ

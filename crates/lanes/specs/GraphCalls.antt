@@ -1,5 +1,5 @@
 -- What the graph call answers, and what is written for an accepted graph (document 01, "The graph", "The barrier" and "Questions put to a call").
---   refusal, graphAnswer    a call's answer, by value: the question's number, or the size of what is written; and the tally
+--   graphAnswer             a call's answer, by value: the size of what is written, and the tally
 --   GraphWritten            some wanted path, or the canonical barrier where there is none, stands at the front of a buffer
 --   GraphAnswered           what the call owes, in one record: result and buffer, tally
 use mathlib.Core.Path.{_≡_}
@@ -14,10 +14,7 @@ use Rattle.lanes.specs.Answers.{WrittenFirst}
 use Rattle.lanes.specs.declared.Tally.{Tally}
 use Rattle.lanes.specs.declared.Told.{Told}
 use Rattle.lanes.specs.declared.Answer.{Answer}
-use Rattle.lanes.specs.declared.Outcome.the-variants.{Path, Barrier, Refusal}
-
-abbrev pub refusal : (number : ℕ) → Tally → Answer
-refusal n t = record { told = record { number = n; size = 0 }; tally = tallied t Refusal }
+use Rattle.lanes.specs.declared.Outcome.the-variants.{Path, Barrier}
 
 abbrev pub graphAnswer : (size : ℕ) → (found : Bool) → Tally → Answer
 graphAnswer k z t = record { told = record { number = 0; size = k }; tally = tallied t (pick z Path Barrier) }

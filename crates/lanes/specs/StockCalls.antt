@@ -1,5 +1,5 @@
 -- What the stock calls answer, and what is written for an accepted stock (document 01, "Stocks" and "Questions put to a call").
---   refusal, stockAnswer       a call's answer, by value: the question's number, or the size of what is written; and the tally
+--   stockAnswer                a call's answer, by value: the size of what is written, and the tally
 --   PlanWritten                some plan of a stock stands at the front of a buffer
 --   SheetWritten               a standing sheet does
 --   PlanAnswered               what a plan's call owes, in one record: result and buffer, tally
@@ -17,9 +17,6 @@ use Rattle.lanes.specs.declared.Tally.{Tally}
 use Rattle.lanes.specs.declared.Told.{Told}
 use Rattle.lanes.specs.declared.Answer.{Answer}
 use Rattle.lanes.specs.declared.Outcome.the-variants as outcome
-
-abbrev pub refusal : (number : ℕ) → Tally → Answer
-refusal n t = record { told = record { number = n; size = 0 }; tally = tallied t outcome.Refusal }
 
 abbrev pub stockAnswer : (size : ℕ) → Tally → Answer
 stockAnswer k t = record { told = record { number = 0; size = k }; tally = tallied t outcome.Stock }

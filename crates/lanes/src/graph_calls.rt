@@ -6,13 +6,14 @@ use crate::Told;
 use crate::answers::put_barrier;
 use crate::answers::put_path;
 use crate::counts::counted;
+use crate::counts::refuse;
 use crate::graphs::read_graph;
 use search::answer::path_or_barrier;
 ghost use mathlib.Core.Path.{_≡_};
 ghost use Prim.Native.Nat.{_*_, _≤_};
 ghost use lib.ListN.{length};
 ghost use Rattle.search.specs.Table.{graphOf, ArcTable};
-ghost use Rattle.lanes.specs.GraphCalls.{refusal, graphAnswer, GraphWritten, GraphAnswered};
+ghost use Rattle.lanes.specs.GraphCalls.{graphAnswer, GraphWritten, GraphAnswered};
 
 // What was written: its bytes, and whether it is a path.
 pub struct Wrote {
@@ -46,15 +47,6 @@ fn write_graph(
             size: put_barrier(out, class),
             found: false,
         },
-    }
-}
-
-fn refuse(number: u8, tally: Tally) -> Answer
-    ensures { λ r. ⌜ r ≡ refusal number tally ⌝ }
-{
-    Answer {
-        told: Told { number, size: 0 },
-        tally: counted(tally, Outcome::Refusal),
     }
 }
 

@@ -6,6 +6,7 @@ use crate::Told;
 use crate::answers::put_plan;
 use crate::answers::put_sheet;
 use crate::counts::counted;
+use crate::counts::refuse;
 use crate::stocks::read_stock;
 use pairing::row::pairs_of;
 ghost use mathlib.Core.Path.{_≡_};
@@ -14,7 +15,7 @@ ghost use lib.ListN.{length};
 ghost use Rattle.counting.specs.Pairs.{zipPairs};
 ghost use Rattle.pairing.specs.Table.{stockOf};
 ghost use Rattle.pairing.specs.Plan.{StockTable};
-ghost use Rattle.lanes.specs.StockCalls.{refusal, stockAnswer, PlanWritten, SheetWritten, PlanAnswered, SheetAnswered};
+ghost use Rattle.lanes.specs.StockCalls.{stockAnswer, PlanWritten, SheetWritten, PlanAnswered, SheetAnswered};
 
 // A plan of the stock at the front of the buffer: how many bytes. The row is work space.
 fn write_plan(out: &mut [u8], row: &mut [u8], us: &[u8], vs: &[u8], ls: &[u8], rs: &[u8]) -> usize
@@ -46,15 +47,6 @@ fn write_sheet(
 {
     let pairs = pairing::plan::sheet(row, us, vs, ls, rs, marks);
     put_sheet(out, pairs, marks)
-}
-
-fn refuse(number: u8, tally: Tally) -> Answer
-    ensures { λ r. ⌜ r ≡ refusal number tally ⌝ }
-{
-    Answer {
-        told: Told { number, size: 0 },
-        tally: counted(tally, Outcome::Refusal),
-    }
 }
 
 fn answer(size: usize, tally: Tally) -> Answer

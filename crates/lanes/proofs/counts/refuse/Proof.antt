@@ -1,13 +1,13 @@
--- `lanes::graph_calls::refuse` meets its contract. Assumes nothing.
+-- `lanes::counts::refuse` meets its contract. Assumes nothing.
 use borrow.Author.Needs.{needs}
-use Rattle.lanes.proofs.graph_calls.refuse.Statement.{statement}
-use Rattle.lanes.proofs.graph_calls.refuse.Tie as tie
+use Rattle.lanes.proofs.counts.refuse.Statement.{statement}
+use Rattle.lanes.proofs.counts.refuse.Tie as tie
 
 counted-requires : tie.Need-counted-requires
 counted-requires c κs = search needs
 
 returns : tie.Need-returns
-returns c = cc
+returns c = rw (c .counted .ensures)
 
 pub refuse-spec : {M : Type 1} → statement M
 refuse-spec = tie.close (tie.spec counted-requires returns)
