@@ -1,0 +1,3 @@
+-- The laws, by subject.
+--   Printing    what is written at the front of a buffer is printed
+pub mod Printing
