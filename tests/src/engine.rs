@@ -43,44 +43,31 @@ pub fn linked() -> Option<Box<dyn Engine>> {
     None
 }
 
-/// The C functions, each slice a pointer and a length.
-/// A call returns its number in the lowest byte and its size above; its tally is four counts of four bytes, the lowest byte first.
+/// The library's C functions (crates/lanes_c/include/lanes.h), each slice a pointer and a length, and a safe function over each.
+/// A call returns its number in the lowest byte and its size above; its tally is four counts: paths, barriers, stocks, refusals.
 /// The check returns 1 for yes, 0 for no, and otherwise the refusal, which is never below 2.
 #[cfg(lanes_library)]
 mod library {
     use super::{Engine, Tally, Told, Verdict};
 
+    type Call = unsafe extern "C" fn(*const u8, usize, *mut u8, usize, *mut [u32; 4]) -> u64;
+
     extern "C" {
-        fn lanes_graph(file: *const u8, file_len: usize, out: *mut u8, out_len: usize, tally: *mut u8, tally_len: usize) -> u64;
-        fn lanes_plan(file: *const u8, file_len: usize, out: *mut u8, out_len: usize, tally: *mut u8, tally_len: usize) -> u64;
-        fn lanes_sheet(file: *const u8, file_len: usize, out: *mut u8, out_len: usize, tally: *mut u8, tally_len: usize) -> u64;
+        fn lanes_graph(file: *const u8, file_len: usize, out: *mut u8, out_len: usize, tally: *mut [u32; 4]) -> u64;
+        fn lanes_plan(file: *const u8, file_len: usize, out: *mut u8, out_len: usize, tally: *mut [u32; 4]) -> u64;
+        fn lanes_sheet(file: *const u8, file_len: usize, out: *mut u8, out_len: usize, tally: *mut [u32; 4]) -> u64;
         fn lanes_check(graph: *const u8, graph_len: usize, certificate: *const u8, certificate_len: usize) -> u8;
     }
-
-    type Call = unsafe extern "C" fn(*const u8, usize, *mut u8, usize, *mut u8, usize) -> u64;
 
     pub struct Library;
 
     fn call(function: Call, file: &[u8], out: &mut [u8], tally: &mut Tally) -> Told {
-        let mut counts = bytes_of(tally);
-        // each pointer and length is those of one slice that is borrowed for the length of the call
-        let told = unsafe { function(file.as_ptr(), file.len(), out.as_mut_ptr(), out.len(), counts.as_mut_ptr(), counts.len()) };
-        *tally = tally_of(&counts);
+        let mut counts = [tally.paths, tally.barriers, tally.stocks, tally.refusals];
+        // each pointer, and its length, is that of one slice or array that is borrowed for the length of the call
+        let told = unsafe { function(file.as_ptr(), file.len(), out.as_mut_ptr(), out.len(), &mut counts) };
+        let [paths, barriers, stocks, refusals] = counts;
+        *tally = Tally { paths, barriers, stocks, refusals };
         Told { number: told as u8, size: (told >> 8) as usize }
-    }
-
-    fn bytes_of(tally: &Tally) -> [u8; 16] {
-        let counts = [tally.paths, tally.barriers, tally.stocks, tally.refusals];
-        let mut bytes = [0; 16];
-        for (place, count) in counts.iter().enumerate() {
-            bytes[4 * place..4 * place + 4].copy_from_slice(&count.to_le_bytes());
-        }
-        bytes
-    }
-
-    fn tally_of(bytes: &[u8; 16]) -> Tally {
-        let count = |place: usize| u32::from_le_bytes(bytes[4 * place..4 * place + 4].try_into().unwrap());
-        Tally { paths: count(0), barriers: count(1), stocks: count(2), refusals: count(3) }
     }
 
     impl Engine for Library {
