@@ -1,3 +1,3 @@
 -- The laws, by subject.
---   Printing    what is written at the front of a buffer is printed
+--   Printing    from what a call owes to what is printed
 pub mod Printing

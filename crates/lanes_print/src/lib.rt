@@ -1,12 +1,36 @@
-// What the programs print (document 01, "Questions put to a call": Programs), at the front of a lent buffer. Each
-// function answers how many bytes there are to print.
+// What the programs print (document 01, "Questions put to a call": Programs), at the front of a lent buffer: an answer's lines, or the one line of a
+// refusal or of the check. Each function answers how many bytes there are to print.
 use frames::write::put_frame4;
+use lanes::Tally;
+use lanes::Told;
 use lanes::Verdict;
 use lanes::check::check;
+use lanes::graph_calls::answer_graph_by;
 ghost use Prim.Native.Nat.{_≤_};
 ghost use lib.ListN.{length};
 ghost use Rattle.lanes.specs.Entry.{verdictLine};
-ghost use Rattle.lanes_print.specs.Printed.{PrintsOne, verdictPrinted};
+ghost use Rattle.lanes_print.specs.Printed.{Shows, Prints, PrintsOne, GraphText, verdictPrinted};
+
+// No call counted yet.
+fn none_counted() -> Tally {
+    Tally {
+        paths: 0,
+        barriers: 0,
+        stocks: 0,
+        refusals: 0,
+    }
+}
+
+// An answer is printed as it stands; in a refusal's place its line.
+fn show(out: &mut [u8], told: Told) -> usize
+    requires { ⌜ 5 ≤ length (now out) ⌝ }
+    ensures { λ r. ⌜ Shows told (now (out .entry)) (now (out .exit)) r ⌝ }
+{
+    if told.number == 0 {
+        return told.size as usize;
+    }
+    put_frame4(out, 0, 0x7E, told.number as usize)
+}
 
 // The check's line.
 fn show_verdict(out: &mut [u8], verdict: Verdict) -> usize
@@ -18,6 +42,14 @@ fn show_verdict(out: &mut [u8], verdict: Verdict) -> usize
         Verdict::Yes => put_frame4(out, 0, 0x7A, 1),
         Verdict::No => put_frame4(out, 0, 0x7A, 0),
     }
+}
+
+pub fn print_graph(file: &[u8], out: &mut [u8]) -> usize
+    requires { ⌜ 2048 ≤ length (now out) ⌝ }
+    ensures { λ r. ⌜ Prints (GraphText (now (file .entry))) (now (out .entry)) (now (out .exit)) r ⌝ }
+{
+    let answer = answer_graph_by(file, out, none_counted());
+    show(out, answer.told)
 }
 
 pub fn print_check(graph: &[u8], cert: &[u8], out: &mut [u8]) -> usize
