@@ -2,7 +2,8 @@
 --   text-prints, line-prints                   a text at the front of a buffer; a line written there
 --   answer-shows, refusal-shows                what a call told, as it is printed: its answer as it stands, the line of its refusal
 --   shown                                      it is a right answer, or the line of the refusal
---   graph-prints                               the same of a graph's call, where there is room
+--   one-prints                                 the same of an answer that is fixed
+--   graph-prints, plan-prints, sheet-prints    the same of each call, where there is room
 use mathlib.Core.Path.{_≡_, refl, ap, sym, subst, _∙_}
 use mathlib.Core.Bool.{Bool, true, false}
 use mathlib.Core.List.{List}
@@ -12,15 +13,17 @@ use borrow.Author.Tests.{le-leb, eqb-true, eqb-false, ne-eqb}
 use lib.Dec.{eqb}
 use lib.ListN.{length, drop, length-append}
 use Rattle.io.proofs.Counting.{counts}
+use Rattle.counting.specs.Tests.{pick}
 use Rattle.counting.proofs.Booleans.{true-false}
 use Rattle.skew.specs.Graph.{hasPath, isWanted, canonical}
 use Rattle.frames.specs.Writes.{Written}
 use Rattle.frames.proofs.Writes.{written-over, frame4-length}
 use Rattle.lanes.specs.GraphFile.{graphIn, graphFault}
+use Rattle.lanes.specs.StockFile.{stockFault, planText}
 use Rattle.lanes.specs.CertificateFile.{pathText, barrierText}
-use Rattle.lanes.specs.Entry.{over, refusalLine, told, answerFault, Answers, GraphOwes}
+use Rattle.lanes.specs.Entry.{over, refusalLine, told, answerFault, sheetFault, Answers, GraphOwes, PlanOwes, sheetPost, sheetLeaves, sheetOfFile}
 use Rattle.lanes.specs.declared.Told.{Told}
-use Rattle.lanes_print.specs.Printed.{RefusedOr, GraphAnswer, GraphText, Shows, PrintsOne, Prints}
+use Rattle.lanes_print.specs.Printed.{RefusedOr, GraphAnswer, GraphText, PlanAnswer, PlanText, sheetPrinted, Shows, PrintsOne, Prints}
 
 -- A TEXT AT THE FRONT
 pub text-prints : {text before after : List ℕ} {size : ℕ} → after ≡ over text before → size ≡ length text → PrintsOne text before after size
@@ -86,3 +89,30 @@ module _ (f : List ℕ) {o v w : List ℕ} {r : Told} {s : ℕ} (h : 2048 ≤ le
       let e : answerFault f o ≡ graphFault f = rw (le-leb 2048 (length o) h) in
       subst (λ (n : ℕ). Prints (RefusedOr n (GraphAnswer f)) o w s) e
       (shown (g .0) (λ z. graph-answer f (hasPath (graphIn f)) refl (g .1 z)) k)
+
+  pub plan-prints : PlanOwes f o r v → Shows r v w s → Prints (PlanText f) o w s
+  plan-prints g k =
+      let e : sheetFault f o ≡ stockFault f = rw (le-leb 2048 (length o) h) in
+      subst (λ (n : ℕ). Prints (RefusedOr n (PlanAnswer f)) o w s) e
+      (shown (g .0) (λ z. let q = g .1 z in (planText (q .0), ((q .0, (q .1 .0, refl)), q .1 .1))) k)
+
+module _ {n : ℕ} (t : List ℕ) {o v w : List ℕ} {r : Told} {s : ℕ} (p : r ≡ told n (length t)) (q : v ≡ pick (eqb n 0) (over t o) o) (k : Shows r v w s) where
+  one-refused : eqb n 0 ≡ false → (r ≡ told n 0) × (v ≡ o)
+  one-refused e = (rw e (rw e at p), rw e at q)
+
+  one-answered : n ≡ 0 → (x : List ℕ) × ((x ≡ t) × Answers x o r v)
+  one-answered e = (t, (refl, (rw e at p, rw e at q)))
+
+  one-text : (z : Bool) → eqb n 0 ≡ z → Prints (RefusedOr n (λ (x : List ℕ). x ≡ t)) o w s → PrintsOne (pick (eqb n 0) t (refusalLine n)) o w s
+  one-text false e y = rw (e, ← (y .right .0 e)) (y .printed)
+  one-text true e y = rw (e, ← (y .right .1 (eqb-true n 0 e))) (y .printed)
+
+  -- the answer is fixed
+  pub one-prints : PrintsOne (pick (eqb n 0) t (refusalLine n)) o w s
+  one-prints = one-text (eqb n 0) refl (shown one-refused one-answered k)
+
+pub sheet-prints : (f : List ℕ) {o v w : List ℕ} {r : Told} {s : ℕ} → 2048 ≤ length o → r ≡ sheetPost f o → v ≡ sheetLeaves f o → Shows r v w s →
+    PrintsOne (sheetPrinted f) o w s
+sheet-prints f {o} {w = w} {s = s} h p q k =
+    let e : sheetFault f o ≡ stockFault f = rw (le-leb 2048 (length o) h) in
+    subst (λ (n : ℕ). PrintsOne (pick (eqb n 0) (sheetOfFile f) (refusalLine n)) o w s) e (one-prints (sheetOfFile f) p q k)

@@ -1,6 +1,8 @@
 -- What each program prints for a file (document 01, "Questions put to a call": Programs): the answer's lines, or 7E and the refusal. A program lends
 -- room enough, so that question 1 is answered yes. Assumes nothing: these are definitions.
 --   GraphText file text                   the text is what is printed for a graph: which path is left free
+--   PlanText file text                    the same of a stock's plan: which largest one is left free
+--   sheetPrinted file                     a stock's standing sheet, or the refusal
 --   verdictPrinted graph cert             the check's line
 --   Shows told before after size          what a call told, as it is printed: its answer as it stands in the buffer, or the line of its refusal
 --   PrintsOne text before after size      the text stands at the front and nothing else differs; its size counts bytes of the buffer
@@ -12,10 +14,13 @@ use Prim.Native.Nat.{ℕ}
 use lib.Dec.{eqb}
 use Rattle.io.specs.Counts.{Counts}
 use Rattle.counting.specs.Tests.{pick}
+use Rattle.counting.specs.Pairs.{Pair}
 use Rattle.skew.specs.Graph.{hasPath, isWanted, canonical}
+use Rattle.matching.specs.Stock.{isPlan}
 use Rattle.lanes.specs.GraphFile.{graphIn, graphFault}
+use Rattle.lanes.specs.StockFile.{stockIn, stockFault, planText}
 use Rattle.lanes.specs.CertificateFile.{pathText, barrierText}
-use Rattle.lanes.specs.Entry.{over, refusalLine, checkPost, verdictLine}
+use Rattle.lanes.specs.Entry.{over, refusalLine, sheetOfFile, checkPost, verdictLine}
 use Rattle.lanes.specs.Answers.{WrittenFirst}
 use Rattle.lanes.specs.declared.Told.{Told}
 
@@ -30,6 +35,15 @@ GraphAnswer f t =
 
 abbrev pub GraphText : (file text : List ℕ) → Type 0
 GraphText f t = RefusedOr (graphFault f) (GraphAnswer f) t
+
+abbrev pub PlanAnswer : (file text : List ℕ) → Type 0
+PlanAnswer f t = (ps : List Pair) × ((isPlan (stockIn f) ps ≡ true) × (t ≡ planText ps))
+
+abbrev pub PlanText : (file text : List ℕ) → Type 0
+PlanText f t = RefusedOr (stockFault f) (PlanAnswer f) t
+
+abbrev pub sheetPrinted : (file : List ℕ) → List ℕ
+sheetPrinted f = pick (eqb (stockFault f) 0) (sheetOfFile f) (refusalLine (stockFault f))
 
 abbrev pub verdictPrinted : (graph cert : List ℕ) → List ℕ
 verdictPrinted f c = verdictLine (checkPost f c)

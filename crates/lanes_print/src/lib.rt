@@ -6,10 +6,12 @@ use lanes::Told;
 use lanes::Verdict;
 use lanes::check::check;
 use lanes::graph_calls::answer_graph_by;
+use lanes::stock_calls::plan_by;
+use lanes::stock_calls::sheet_by;
 ghost use Prim.Native.Nat.{_≤_};
 ghost use lib.ListN.{length};
 ghost use Rattle.lanes.specs.Entry.{verdictLine};
-ghost use Rattle.lanes_print.specs.Printed.{Shows, Prints, PrintsOne, GraphText, verdictPrinted};
+ghost use Rattle.lanes_print.specs.Printed.{Shows, Prints, PrintsOne, GraphText, PlanText, sheetPrinted, verdictPrinted};
 
 // No call counted yet.
 fn none_counted() -> Tally {
@@ -49,6 +51,22 @@ pub fn print_graph(file: &[u8], out: &mut [u8]) -> usize
     ensures { λ r. ⌜ Prints (GraphText (now (file .entry))) (now (out .entry)) (now (out .exit)) r ⌝ }
 {
     let answer = answer_graph_by(file, out, none_counted());
+    show(out, answer.told)
+}
+
+pub fn print_plan(file: &[u8], out: &mut [u8]) -> usize
+    requires { ⌜ 2048 ≤ length (now out) ⌝ }
+    ensures { λ r. ⌜ Prints (PlanText (now (file .entry))) (now (out .entry)) (now (out .exit)) r ⌝ }
+{
+    let answer = plan_by(file, out, none_counted());
+    show(out, answer.told)
+}
+
+pub fn print_sheet(file: &[u8], out: &mut [u8]) -> usize
+    requires { ⌜ 2048 ≤ length (now out) ⌝ }
+    ensures { λ r. ⌜ PrintsOne (sheetPrinted (now (file .entry))) (now (out .entry)) (now (out .exit)) r ⌝ }
+{
+    let answer = sheet_by(file, out, none_counted());
     show(out, answer.told)
 }
 
