@@ -1,0 +1,45 @@
+/* The pairing engine's calls, in liblanes_c.a (document 01, "Questions put to a call").
+ *
+ * A file and a buffer are a pointer and a number of bytes, each readable (a buffer also writable) over its whole length during the call; a buffer
+ * overlaps neither the file nor the tally. No pointer is null. A call keeps nothing behind and may run in several threads at once.
+ *
+ * The tally is four counts, in this order: paths, barriers, stock answers, refusals. Each call but the check counts one up; a count at
+ * 4,294,967,295 stays there. Start with zeros and hand the same four to every call.
+ *
+ * A call returns the refusal (the number of the first question answered no, or 0 for an answer) in the lowest byte and the answer's bytes above:
+ * LANES_NUMBER and LANES_SIZE. A refusal changes no byte of the buffer; an answer only its own at the front. A buffer of LANES_ROOM bytes
+ * holds every answer; a smaller one is refused with 1.
+ */
+#ifndef LANES_H
+#define LANES_H
+
+#include <stddef.h>
+#include <stdint.h>
+
+#ifdef __cplusplus
+extern "C" {
+#endif
+
+#define LANES_ROOM 2048
+
+#define LANES_NUMBER(told) ((unsigned)((told) & 0xFF))
+#define LANES_SIZE(told) ((size_t)((told) >> 8))
+
+/* A graph file: a regular path from the source to its mate or, where there is none, the canonical barrier. */
+uint64_t lanes_graph(const uint8_t *file, size_t file_size, uint8_t *out, size_t out_size, uint32_t tally[4]);
+
+/* A stock file: as many pairs as possible, every lit camera still lit; the lit pairs where those are as many. */
+uint64_t lanes_plan(const uint8_t *file, size_t file_size, uint8_t *out, size_t out_size, uint32_t tally[4]);
+
+/* A stock file: its standing sheet, the greatest number of pairs and a mark for each camera. */
+uint64_t lanes_sheet(const uint8_t *file, size_t file_size, uint8_t *out, size_t out_size, uint32_t tally[4]);
+
+/* A graph file and a certificate, a path or a barrier: 1 for yes, 0 for no, otherwise the refusal: the graph's number (2 to 10), or the
+ * certificate's with 40 added. */
+uint8_t lanes_check(const uint8_t *graph, size_t graph_size, const uint8_t *certificate, size_t certificate_size);
+
+#ifdef __cplusplus
+}
+#endif
+
+#endif

@@ -1,0 +1,3 @@
+-- The laws, by subject.
+--   Tallies    the four counts that a call leaves
+pub mod Tallies

@@ -1,0 +1,40 @@
+-- What an exported call returns and leaves: document 01's results as numbers, and its tally as four counts. Assumes nothing: these are definitions.
+--   tallyOf, countsOf                                 the tally that four counts are, and the counts of a tally: paths, barriers, stocks, refusals
+--   packed told                                       a call's result: its number in the lowest byte, its size above
+--   said verdict                                      the check's: 1 for yes, 0 for no, otherwise the refusal, which is never below 2
+--   Called Owes tally result after counts             a call whose answer is left free: what it tells and leaves is owed, and the tally is as given
+--   SheetCalled file before counts result after new   the call that writes a standing sheet
+use mathlib.Core.Path.{_≡_}
+use mathlib.Core.List.{List, [], _∷_}
+use Prim.Native.Nat.{ℕ, _+_, _*_}
+use lib.ListN.{getD}
+use Rattle.lanes.specs.Entry.{sheetPost, sheetLeaves, stockTally}
+use Rattle.lanes.specs.declared.Tally.{Tally}
+use Rattle.lanes.specs.declared.Told.{Told}
+use Rattle.lanes.specs.declared.Verdict.{Verdict}
+use Rattle.lanes.specs.declared.Verdict.the-variants.{Refused, Yes, No}
+
+abbrev pub tallyOf : (counts : List ℕ) → Tally
+tallyOf cs = record { paths = getD cs 0 0; barriers = getD cs 1 0; stocks = getD cs 2 0; refusals = getD cs 3 0 }
+
+abbrev pub countsOf : Tally → List ℕ
+countsOf t = t .paths ∷ t .barriers ∷ t .stocks ∷ t .refusals ∷ []
+
+abbrev pub packed : Told → ℕ
+packed r = 256 * r .size + r .number
+
+abbrev pub said : Verdict → ℕ
+said (Refused n) = n
+said Yes = 1
+said No = 0
+
+pub record Called (Owes : Told → List ℕ → Type 0) (t : Tally) (result : ℕ) (after counts : List ℕ) : Type 0 where
+  pub told : Told
+  pub owes : Owes told after
+  pub returned : result ≡ packed told
+  pub counted : counts ≡ countsOf t
+
+pub record SheetCalled (f before counts : List ℕ) (result : ℕ) (after new : List ℕ) : Type 0 where
+  pub returned : result ≡ packed (sheetPost f before)
+  pub leaves : after ≡ sheetLeaves f before
+  pub counted : new ≡ countsOf (stockTally f before (tallyOf counts))

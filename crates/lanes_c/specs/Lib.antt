@@ -1,0 +1,3 @@
+-- What the contracts cite.
+--   Exported    what an exported call returns and leaves
+pub mod Exported

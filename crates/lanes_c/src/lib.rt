@@ -1,0 +1,73 @@
+// The engine's calls for C and Rust (document 01, "Questions put to a call"), over numbers and slices alone; include/lanes.h declares them for C.
+use lanes::Tally;
+use lanes::Told;
+use lanes::Verdict;
+use lanes::check::check;
+use lanes::graph_calls::answer_graph_by;
+use lanes::stock_calls::plan_by;
+use lanes::stock_calls::sheet_by;
+ghost use mathlib.Core.Path.{_≡_};
+ghost use Rattle.lanes.specs.Entry.{GraphOwes, PlanOwes, graphTally, stockTally, checkPost};
+ghost use Rattle.lanes_c.specs.Exported.{tallyOf, countsOf, packed, said, Called, SheetCalled};
+
+fn tally_of(counts: &[u32; 4]) -> Tally
+    ensures { λ r. ⌜ r ≡ tallyOf (now (counts .entry)) ⌝ }
+{
+    Tally {
+        paths: counts[0],
+        barriers: counts[1],
+        stocks: counts[2],
+        refusals: counts[3],
+    }
+}
+
+fn put_counts(counts: &mut [u32; 4], tally: Tally)
+    ensures { λ _. ⌜ now (counts .exit) ≡ countsOf tally ⌝ }
+{
+    *counts = [tally.paths, tally.barriers, tally.stocks, tally.refusals];
+}
+
+fn pack(told: Told) -> u64
+    ensures { λ r. ⌜ r ≡ packed told ⌝ }
+{
+    256 * (told.size as u64) + (told.number as u64)
+}
+
+#[no_mangle]
+pub extern "C" fn lanes_graph(file: &[u8], out: &mut [u8], tally: &mut [u32; 4]) -> u64
+    ensures { λ r. ⌜ Called (GraphOwes (now (file .entry)) (now (out .entry))) (graphTally (now (file .entry)) (now (out .entry)) (tallyOf (now (tally .entry)))) r (now (out .exit)) (now (tally .exit)) ⌝ }
+{
+    let answer = answer_graph_by(file, out, tally_of(tally));
+    put_counts(tally, answer.tally);
+    pack(answer.told)
+}
+
+#[no_mangle]
+pub extern "C" fn lanes_plan(file: &[u8], out: &mut [u8], tally: &mut [u32; 4]) -> u64
+    ensures { λ r. ⌜ Called (PlanOwes (now (file .entry)) (now (out .entry))) (stockTally (now (file .entry)) (now (out .entry)) (tallyOf (now (tally .entry)))) r (now (out .exit)) (now (tally .exit)) ⌝ }
+{
+    let answer = plan_by(file, out, tally_of(tally));
+    put_counts(tally, answer.tally);
+    pack(answer.told)
+}
+
+#[no_mangle]
+pub extern "C" fn lanes_sheet(file: &[u8], out: &mut [u8], tally: &mut [u32; 4]) -> u64
+    ensures { λ r. ⌜ SheetCalled (now (file .entry)) (now (out .entry)) (now (tally .entry)) r (now (out .exit)) (now (tally .exit)) ⌝ }
+{
+    let answer = sheet_by(file, out, tally_of(tally));
+    put_counts(tally, answer.tally);
+    pack(answer.told)
+}
+
+#[no_mangle]
+pub extern "C" fn lanes_check(graph: &[u8], cert: &[u8]) -> u8
+    ensures { λ r. ⌜ r ≡ said (checkPost (now (graph .entry)) (now (cert .entry))) ⌝ }
+{
+    let verdict = check(graph, cert);
+    match verdict {
+        Verdict::Refused(number) => number,
+        Verdict::Yes => 1,
+        Verdict::No => 0,
+    }
+}
