@@ -17,6 +17,9 @@ ghost use Rattle.pairing.specs.Table.{stockOf};
 ghost use Rattle.pairing.specs.Plan.{StockTable};
 ghost use Rattle.lanes.specs.StockCalls.{stockAnswer, PlanWritten, SheetWritten, PlanAnswered, SheetAnswered};
 
+// Question 1: the bytes that an answer's buffer has at least.
+const ROOM: usize = 2048;
+
 // A plan of the stock at the front of the buffer: how many bytes. The row is work space.
 fn write_plan(out: &mut [u8], row: &mut [u8], us: &[u8], vs: &[u8], ls: &[u8], rs: &[u8]) -> usize
     requires { ⌜ StockTable (length (now row)) (now us) (now vs) (now ls) (now rs) ⌝ }
@@ -66,7 +69,7 @@ fn answer(size: usize, tally: Tally) -> Answer
 pub fn plan_by(file: &[u8], out: &mut [u8], tally: Tally) -> Answer
     ensures { λ r. ⌜ PlanAnswered (now (file .entry)) (now (out .entry)) tally (r .told) (now (out .exit)) (r .tally) ⌝ }
 {
-    if out.len() < 2048 {
+    if out.len() < ROOM {
         return refuse(1, tally);
     }
     let mut firsts = [0u8; 3900];
@@ -97,7 +100,7 @@ pub fn plan_by(file: &[u8], out: &mut [u8], tally: Tally) -> Answer
 pub fn sheet_by(file: &[u8], out: &mut [u8], tally: Tally) -> Answer
     ensures { λ r. ⌜ SheetAnswered (now (file .entry)) (now (out .entry)) tally (r .told) (now (out .exit)) (r .tally) ⌝ }
 {
-    if out.len() < 2048 {
+    if out.len() < ROOM {
         return refuse(1, tally);
     }
     let mut firsts = [0u8; 3900];
