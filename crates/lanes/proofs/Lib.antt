@@ -16,6 +16,7 @@
 --   Verdicts         the check's answer
 --   GraphCalls       what the graph call answers
 --   StockCalls       what the stock calls answer
+--   LentTally        a call with its tally lent, over the call by value
 pub mod Marked
 pub mod Scans
 pub mod Tables
@@ -33,3 +34,4 @@ pub mod ArcTables
 pub mod Verdicts
 pub mod GraphCalls
 pub mod StockCalls
+pub mod LentTally
