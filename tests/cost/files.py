@@ -1,0 +1,32 @@
+#!/usr/bin/env python3
+"""Writes the files on which docs/ARCHITECTURE.md counts instructions into the current folder; the same ones at every run."""
+import random
+
+
+def stock(name, cameras, fits, lit):
+    with open(name, 'w') as f:
+        f.write('11%02X\n' % cameras)
+        for u, v in sorted(fits):
+            f.write('12%02X%02X\n' % (u, v))
+        for u, v in lit:
+            f.write('13%02X%02X\n' % (u, v))
+        f.write('1F%04X\n' % (len(fits) + len(lit)))
+
+
+def graph(name, arcs):
+    with open(name, 'w') as f:
+        f.write('018000\n')
+        for tail, head in arcs:
+            f.write('02%02X%02X\n' % (tail, head))
+            f.write('02%02X%02X\n' % (head ^ 1, tail ^ 1))
+        f.write('0F%04X\n' % (2 * len(arcs)))
+
+
+random.seed(1)
+every = [(u, v) for u in range(127) for v in range(u + 1, 127)]
+stock('random.stock', 127, random.sample(every, 3900), [])
+triangles = [(3 * i + a, 3 * i + b) for i in range(42) for a, b in ((0, 1), (0, 2), (1, 2))]
+stock('triangles.stock', 126, triangles + [(3 * i + 2, 3 * i + 3) for i in range(41)], [])
+stock('chain.stock', 126, [(i, i + 1) for i in range(125)], [(i, i + 1) for i in range(1, 124, 2)])
+graph('even.graph', [(2 * random.randrange(128), 2 * random.randrange(128)) for _ in range(4096)])
+graph('buds.graph', [(0, 2)] + [(random.randrange(2, 256), random.randrange(2, 256)) for _ in range(4095)])
