@@ -1,27 +1,20 @@
 -- A graph that was read, as the arc table that the search takes. Assumes nothing.
---   arcs-zip       the arcs of two lists, pair by pair
 --   held-graph     the graph of the table is the file's
 --   held-table     and the table is within what the questions settle
-use mathlib.Core.Path.{_≡_, refl, ap, subst, sym, _∙_}
-use mathlib.Core.List.{List, [], _∷_}
+use mathlib.Core.Path.{_≡_, ap, subst, sym, _∙_}
+use mathlib.Core.List.{List}
 use Prim.Native.Nat.{ℕ}
 use native.Mathlib.Omega.{arith}
 use lib.ListN.{length, take}
 use lib.Seq.{length-take-le}
-use Rattle.counting.specs.Pairs.{Pair, pair, zipPairs}
-use Rattle.search.specs.Table.{arcsOf, graphOf, ArcTable}
-use Rattle.search.proofs.Tables.{arcs-length}
+use Rattle.counting.specs.Pairs.{Pair}
+use Rattle.search.specs.Table.{graphOf, ArcTable}
+use Rattle.search.proofs.Tables.{arcs-length, arcs-zip}
 use Rattle.skew.specs.Graph.{Graph}
 use Rattle.skew.specs.Paths.{WellFormed}
 use Rattle.lanes.specs.GraphFile.{graphIn, graphFault}
 use Rattle.lanes.specs.Readers.{GraphHeld}
 use Rattle.lanes.proofs.AcceptedFiles.{accepted-graph, graph-few}
-
-arcs-zip : (ts hs : List ℕ) → length hs ≡ length ts → arcsOf ts hs ≡ zipPairs ts hs
-unfolding arcsOf zipPairs
-arcs-zip [] hs h = refl
-arcs-zip (t ∷ ts) [] h = absurd (omega arith)
-arcs-zip (t ∷ ts) (x ∷ hs) h = ap (λ (xs : List Pair). pair t x ∷ xs) (arcs-zip ts hs (omega arith))
 
 graph-same : {p q s t : ℕ} {xs ys : List Pair} → p ≡ q → s ≡ t → xs ≡ ys →
     _≡_ {A = Graph} (record { pairs = p; source = s; arcs = xs }) (record { pairs = q; source = t; arcs = ys })

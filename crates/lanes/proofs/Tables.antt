@@ -6,29 +6,17 @@
 --   seconds-are     the second numbers: the second slice
 use mathlib.Core.Path.{_≡_, refl, ap, sym, _∙_}
 use mathlib.Core.List.{List, [], _∷_}
-use Prim.Native.Nat.{ℕ, zero, suc, _+_, _≤_, _<_}
+use Prim.Native.Nat.{ℕ, _+_, _≤_, _<_}
 use native.Mathlib.Omega.{arith}
 use lib.ListN.{length, getD, take, drop, drop-of-length-le}
 use lib.Seq.{length-take-le, getD-take}
 use Rattle.counting.specs.Pairs.{pair, noPair, zipPairs, pairsOf}
+use Rattle.counting.proofs.Zips.{zip-length, zip-at}
 use Rattle.lanes.specs.Tables.{Holds}
 use Rattle.lanes.specs.CertificateFile.{secondsOf}
 use Rattle.lanes.proofs.Scans.{drop-next}
 
-zip-length : (xs ys : List ℕ) → length xs ≡ length ys → length (zipPairs xs ys) ≡ length xs
-unfolding zipPairs
-zip-length [] ys h = refl
-zip-length (x ∷ xs) [] h = absurd (omega arith)
-zip-length (x ∷ xs) (y ∷ ys) h = ap suc (zip-length xs ys (omega arith))
-
-zip-at : (xs ys : List ℕ) (i : ℕ) → length xs ≡ length ys → i < length xs → getD (zipPairs xs ys) i noPair ≡ pair (getD xs i 0) (getD ys i 0)
-unfolding zipPairs
-zip-at [] ys i h k = absurd (omega arith)
-zip-at (x ∷ xs) [] i h k = absurd (omega arith)
-zip-at (x ∷ xs) (y ∷ ys) zero h k = refl
-zip-at (x ∷ xs) (y ∷ ys) (suc i) h k = zip-at xs ys i (omega arith) (omega arith)
-
-zip-seconds : (xs ys : List ℕ) → length xs ≡ length ys → secondsOf (zipPairs xs ys) ≡ ys
+zip-seconds : (xs ys : List ℕ) → length ys ≡ length xs → secondsOf (zipPairs xs ys) ≡ ys
 unfolding zipPairs secondsOf
 zip-seconds [] [] h = refl
 zip-seconds [] (y ∷ ys) h = absurd (omega arith)
@@ -36,8 +24,8 @@ zip-seconds (x ∷ xs) [] h = absurd (omega arith)
 zip-seconds (x ∷ xs) (y ∷ ys) h = ap (λ (zs : List ℕ). y ∷ zs) (zip-seconds xs ys (omega arith))
 
 module _ {n : ℕ} {us vs : List ℕ} (r : Holds n us vs) where
-  same-length : length (take n us) ≡ length (take n vs)
-  same-length = length-take-le n us (r .first) ∙ sym (length-take-le n vs (r .second))
+  same-length : length (take n vs) ≡ length (take n us)
+  same-length = length-take-le n vs (r .second) ∙ sym (length-take-le n us (r .first))
 
   pub pairs-length : length (pairsOf n us vs) ≡ n
   pairs-length = zip-length (take n us) (take n vs) same-length ∙ length-take-le n us (r .first)

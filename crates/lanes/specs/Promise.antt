@@ -17,7 +17,8 @@ use lib.Dec.{leb, eqb}
 use lib.ListN.{length, take}
 use Rattle.counting.specs.Pairs.{Pair, pair}
 use Rattle.frames.specs.Frames.{hexAt}
-use Rattle.skew.specs.Graph.{Graph, isRegular, endOf, isWanted, isReachable, hasPath, isBarrier, canonical}
+use Rattle.skew.specs.Graph.{Graph, isRegular, isWanted, isReachable, hasPath, isBarrier, canonical}
+use Rattle.skew.specs.Promise.{SomePath}
 use Rattle.matching.specs.Promise.{LeftBySome, FitsSomeLeft}
 use Rattle.matching.specs.Stock.{Stock, isPairing, greatest, markOf, marksOf, isPlan}
 use Rattle.lanes.specs.GraphFile.{graphIn, graphFault}
@@ -29,9 +30,6 @@ areBytes [] = true
 areBytes (b ∷ bs) = leb b 255 && areBytes bs
 
 -- DEMAND 2
-abbrev pub SomePath : Graph → (to : ℕ) → Type 0
-SomePath g w = (is : List ℕ) × ((isRegular g is ≡ true) × (endOf g (g .source) is ≡ w))
-
 abbrev pub IsGraphFile : (file : List ℕ) → Type 0
 IsGraphFile f = (areBytes f ≡ true) × (graphFault f ≡ 0)
 

@@ -4,7 +4,7 @@
 --   pair-at, fit-first, fit-second                a pair of two tables, and its cameras
 --   row-low, cameras-size                         partners are cameras; how many arcs the cameras have
 --   doubled                                       cameras and then fits are the doubled table
-use mathlib.Core.Path.{_≡_, refl, sym, ap, _∙_}
+use mathlib.Core.Path.{_≡_, sym, ap, _∙_}
 use mathlib.Core.List.{List, [], _∷_, _++_}
 use Prim.Native.Nat.{ℕ, suc, _+_, _-_, _*_, _≤_, _<_}
 use native.Mathlib.Numerals.{add-one}
@@ -17,7 +17,7 @@ use Rattle.counting.specs.Pairs.{Pair, pair, noPair, zipPairs}
 use Rattle.counting.proofs.Membership.{getD-in}
 use Rattle.counting.proofs.Zips.{zip-length, zip-at}
 use Rattle.counting.proofs.Range.{length-up, up-cons, up-none}
-use Rattle.search.specs.Table.{arcsOf}
+use Rattle.search.proofs.Tables.{arcs-zip}
 use Rattle.matching.specs.Matching.{Matching}
 use Rattle.matching.specs.Row.{partnerIn}
 use Rattle.matching.specs.DoubledTable.{arcsOfCamera, cameraArcs, arcsOfFit, fitArcs}
@@ -26,12 +26,6 @@ use Rattle.matching.proofs.Matchings.{matching-low}
 use Rattle.matching.proofs.Rows.{row-partner}
 use Rattle.matching.proofs.DoubledTable.{camera-arcs-rest, camera-size, table-size}
 use Rattle.pairing.specs.Table.{FitTable, written, Wrote, camerasLeft, fitsLeft, Doubled}
-
-arcs-zip : (ts hs : List ℕ) → length hs ≡ length ts → arcsOf ts hs ≡ zipPairs ts hs
-unfolding arcsOf zipPairs
-arcs-zip [] hs e = refl
-arcs-zip (t ∷ ts) [] e = absurd (omega arith)
-arcs-zip (t ∷ ts) (h ∷ hs) e = ap (λ (l : List Pair). pair t h ∷ l) (arcs-zip ts hs (omega arith))
 
 -- CAMERAS
 pub cameras-left-first : (row : List ℕ) (k : ℕ) → k < length row →

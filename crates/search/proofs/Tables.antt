@@ -1,6 +1,7 @@
 -- The arc table as a list of arcs. Assumes nothing.
 --   arcs-length                   as many arcs as tails
 --   arcs-at                       the arc of a number, by its tail and head
+--   arcs-zip                      where there are as many heads as tails: the arcs pair by pair
 --   tail-is, head-is              an arc's ends
 --   tail-node, head-node          they are nodes
 --   arc-in, in-arcs               arc numbers, by the table's length
@@ -11,7 +12,7 @@ use Prim.Native.Nat.{ℕ, zero, suc, _+_, _*_, _<_}
 use native.Mathlib.Omega.{arith}
 use lib.ListN.{length, getD, drop}
 use lib.Seq.{getD-drop}
-use Rattle.counting.specs.Pairs.{Pair, pair, noPair}
+use Rattle.counting.specs.Pairs.{Pair, pair, noPair, zipPairs}
 use Rattle.skew.specs.Graph.{Graph}
 use Rattle.skew.specs.Paths.{tail, head}
 use Rattle.skew.proofs.Paths.{tail-node as tail-is-node}
@@ -30,6 +31,12 @@ arcs-at (t ∷ ts) hs zero h = refl
 arcs-at (t ∷ ts) hs (suc i) h =
     let e : 1 + i ≡ suc i = omega arith in
     arcs-at ts (drop 1 hs) i (omega arith) ∙ ap (λ (x : ℕ). pair (getD ts i 0) x) (getD-drop 1 hs i 0 ∙ ap (λ (m : ℕ). getD hs m 0) e)
+
+pub arcs-zip : (ts hs : List ℕ) → length hs ≡ length ts → arcsOf ts hs ≡ zipPairs ts hs
+unfolding arcsOf zipPairs
+arcs-zip [] hs e = refl
+arcs-zip (t ∷ ts) [] e = absurd (omega arith)
+arcs-zip (t ∷ ts) (h ∷ hs) e = ap (λ (xs : List Pair). pair t h ∷ xs) (arcs-zip ts hs (omega arith))
 
 module _ (n s : ℕ) (ts hs : List ℕ) where
   abbrev g : Graph
