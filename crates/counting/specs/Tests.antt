@@ -1,8 +1,9 @@
--- Document 03's tests over lists, taken over from its Frames and Graph; `keep` for elements of any type.
+-- Document 03's tests over lists, taken over from its Frames, Graph and Promise; `keep` for elements of any type.
 --   pick b x y      x where b is true, else y
 --   all f xs        f holds of every element
 --   any f xs        f holds of some element
 --   among x xs      the number x is an element
+--   same xs ys      two lists of numbers are the same
 --   noneTwice xs    no number stands twice
 --   upFrom i n      i, i+1, .., n numbers
 --   below n         0, 1, .., n-1
@@ -27,6 +28,12 @@ any f (x ∷ xs) = f x || any f xs
 unfoldable pub among : ℕ → List ℕ → Bool
 among x [] = false
 among x (y ∷ ys) = eqb x y || among x ys
+
+unfoldable pub same : List ℕ → List ℕ → Bool
+same [] [] = true
+same [] (y ∷ ys) = false
+same (x ∷ xs) [] = false
+same (x ∷ xs) (y ∷ ys) = eqb x y && same xs ys
 
 unfoldable pub noneTwice : List ℕ → Bool
 noneTwice [] = true

@@ -14,19 +14,19 @@ use lib.ListN.{length, getD, take, length-append}
 use lib.Seq.{length-take-le}
 use Rattle.counting.proofs.Booleans.{and-left, and-right, true-false}
 use Rattle.frames.proofs.Writes.{hexBytes-length}
-use Rattle.search.specs.Table.{graphOf, ArcTable}
+use Rattle.arcs.specs.Table.{graphOf, ArcTable}
 use Rattle.search.specs.Answer.{Answered}
 use Rattle.search.specs.declared.answer.Answer as search
 use Rattle.search.specs.declared.answer.Answer.the-variants.{Path, Barrier}
 use Rattle.skew.specs.Graph.{Graph, mate, isRegular, isWanted, isReachable, hasPath, canonical}
 use Rattle.skew.specs.Paths.{WellFormed}
 use Rattle.skew.proofs.Promise.{reaches-by-paths}
-use Rattle.lanes.specs.GraphFile.{graphIn, graphFault}
-use Rattle.lanes.specs.CertificateFile.{pathLines, pathText, classLines, barrierText}
+use Rattle.files.specs.GraphFile.{graphIn, graphFault}
+use Rattle.files.specs.CertificateFile.{pathLines, pathText, classLines, barrierText}
 use Rattle.lanes.specs.Entry.{answerFault, refusal}
-use Rattle.lanes.specs.Answers.{WrittenFirst}
-use Rattle.lanes.specs.Readers.{GraphRead}
-use Rattle.lanes.proofs.ArcTables.{held-graph, held-table}
+use Rattle.files.specs.Answers.{WrittenFirst}
+use Rattle.files.specs.Readers.{GraphRead}
+use Rattle.files.proofs.ArcTables.{held-graph, held-table}
 use Rattle.lanes.specs.GraphCalls.{graphAnswer, GraphWritten, GraphAnswered}
 use Rattle.lanes.specs.declared.Tally.{Tally}
 use Rattle.lanes.specs.declared.Answer.{Answer}

@@ -17,12 +17,12 @@ use Rattle.matching.proofs.Matchings.{list-count}
 use Rattle.matching.proofs.Greatest.{greatest-bound, greatest-pairing}
 use Rattle.matching.proofs.Promises as matching
 use Rattle.matching.proofs.Promises.{well-formed-fits}
-use Rattle.lanes.specs.GraphFile.{graphIn}
-use Rattle.lanes.specs.StockFile.{stockIn, stockFault, sheetText}
+use Rattle.files.specs.GraphFile.{graphIn}
+use Rattle.files.specs.StockFile.{stockIn, stockFault, sheetText}
 use Rattle.lanes.specs.Entry.{roomFault, sheetFault, sheetOfFile}
 use Rattle.lanes.specs.Promise.{ReachesByPaths, PathOrBarrier, GreatestIs, MarksAre, sheetIn, SheetsTell, SheetsByFits, SheetNumber}
-use Rattle.lanes.proofs.AcceptedFiles.{accepted-graph, accepted-stock, stock-few}
-use Rattle.lanes.proofs.SheetBytes.{sheets-alike, alike-sheets, sheet-number}
+use Rattle.files.proofs.AcceptedFiles.{accepted-graph, accepted-stock, stock-few}
+use Rattle.files.proofs.SheetBytes.{sheets-alike, alike-sheets, sheet-number}
 
 pub reaches-by-paths : ReachesByPaths
 reaches-by-paths f w a = skew.reaches-by-paths (graphIn f) (accepted-graph f (a .1)) w

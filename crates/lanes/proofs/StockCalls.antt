@@ -24,16 +24,16 @@ use Rattle.matching.specs.Matching.{pairsInOrder}
 use Rattle.matching.specs.Promise.{WellFormedStock}
 use Rattle.pairing.specs.Table.{stockOf, Listed}
 use Rattle.pairing.specs.Plan.{StockTable, Sheet}
-use Rattle.lanes.specs.StockFile.{markLines, stockIn, stockFault, planText}
-use Rattle.lanes.specs.Answers.{WrittenFirst}
+use Rattle.files.specs.StockFile.{markLines, stockIn, stockFault, planText}
+use Rattle.files.specs.Answers.{WrittenFirst}
 use Rattle.lanes.specs.Entry.{sheetFault, refusal}
-use Rattle.lanes.specs.Readers.{StockRead}
+use Rattle.files.specs.Readers.{StockRead}
 use Rattle.lanes.specs.StockCalls.{stockAnswer, PlanWritten, SheetWritten, PlanAnswered, SheetAnswered}
 use Rattle.lanes.specs.declared.Tally.{Tally}
 use Rattle.lanes.specs.declared.Answer.{Answer}
-use Rattle.lanes.proofs.Tables.{pairs-length}
-use Rattle.lanes.proofs.AcceptedFiles.{accepted-stock, stock-few, fits-few}
-use Rattle.lanes.proofs.AnswerLines.{plan-size, sheet-size}
+use Rattle.files.proofs.Tables.{pairs-length}
+use Rattle.files.proofs.AcceptedFiles.{accepted-stock, stock-few, fits-few}
+use Rattle.files.proofs.AnswerLines.{plan-size, sheet-size}
 
 -- WRITTEN
 pub pairs-few : (p : ℕ → ℕ) (ks : List ℕ) → length (pairsInOrder p ks) ≤ length ks

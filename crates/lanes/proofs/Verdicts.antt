@@ -22,17 +22,17 @@ use Rattle.frames.specs.Writes.{barrierLine, beginsBarrier}
 use Rattle.frames.proofs.Questions.{or-stop, or-go, or-none}
 use Rattle.frames.proofs.ShapeFaults.{shape-chain}
 use Rattle.frames.proofs.Begins.{begins-split, begins-header}
-use Rattle.search.specs.Table.{graphOf}
+use Rattle.arcs.specs.Table.{graphOf}
 use Rattle.skew.specs.Graph.{Graph, nodes, isWanted, isBarrier}
-use Rattle.lanes.specs.GraphFile.{graphIn, graphFault}
-use Rattle.lanes.specs.CertificateFile.{isPathFile, pathArcs, pathFault, barrierClasses, barrierFault, certFault, certHolds}
-use Rattle.lanes.specs.CertificateReaders.{PathRead, BarrierRead}
-use Rattle.lanes.specs.Readers.{GraphRead}
+use Rattle.files.specs.GraphFile.{graphIn, graphFault}
+use Rattle.files.specs.CertificateFile.{isPathFile, pathArcs, pathFault, barrierClasses, barrierFault, certFault, certHolds}
+use Rattle.files.specs.CertificateReaders.{PathRead, BarrierRead}
+use Rattle.files.specs.Readers.{GraphRead}
 use Rattle.lanes.specs.Entry.{checkFault, checkPost}
 use Rattle.lanes.specs.Verdicts.{verdictOf, certNumber, pathVerdict, barrierVerdict, certVerdict}
 use Rattle.lanes.specs.declared.Verdict.{Verdict}
 use Rattle.lanes.specs.declared.Verdict.the-variants.{Refused, Yes, No}
-use Rattle.lanes.proofs.ArcTables.{held-graph}
+use Rattle.files.proofs.ArcTables.{held-graph}
 
 verdict-refused : (n : ℕ) (z : Bool) → (n ≡ 0 → ⊥) → verdictOf (certNumber n) z ≡ Refused (40 + n)
 verdict-refused n z h = rw (ne-eqb n 0 h, ne-eqb (40 + n) 0 (λ q. omega arith))

@@ -1,7 +1,6 @@
 -- What each call answers and leaves: its result, the buffer and the tally (document 01, "Questions put to a call"; the definitions are document
 -- 03's, with the verdict's lines). Assumes nothing: these are definitions.
 --   roomFault, answerFault, sheetFault, checkFault    the first question answered no, by call
---   over new old                                      a buffer with new bytes at the front, the others as they were
 --   told                                              a call's result: its refusal, or 0 and the answer's size
 --   raised, counted, tallied                          one more, where a count is not at its largest; of the counts named; by outcome
 --   refusal                                           a refused call's result and tally
@@ -12,18 +11,19 @@
 --   refusalLine                                       the line that says a refusal
 use mathlib.Core.Path.{_≡_}
 use mathlib.Core.Bool.{Bool, true, false, _&&_, not}
-use mathlib.Core.List.{List, _++_}
+use mathlib.Core.List.{List}
 use Prim.Native.Nat.{ℕ, suc, _+_}
 use lib.Dec.{ltb, leb, eqb}
-use lib.ListN.{length, drop}
+use lib.ListN.{length}
 use Rattle.counting.specs.Tests.{pick}
 use Rattle.counting.specs.Pairs.{Pair}
 use Rattle.frames.specs.Frames.{orElse, unless, frame4}
 use Rattle.skew.specs.Graph.{hasPath, isWanted, canonical}
 use Rattle.matching.specs.Stock.{isPlan}
-use Rattle.lanes.specs.GraphFile.{graphIn, graphFault}
-use Rattle.lanes.specs.StockFile.{stockIn, stockFault, planText, sheetText}
-use Rattle.lanes.specs.CertificateFile.{certFault, certHolds, pathText, barrierText}
+use Rattle.files.specs.GraphFile.{graphIn, graphFault}
+use Rattle.files.specs.StockFile.{stockIn, stockFault, planText, sheetText}
+use Rattle.files.specs.Answers.{over}
+use Rattle.files.specs.CertificateFile.{certFault, certHolds, pathText, barrierText}
 use Rattle.lanes.specs.declared.Tally.{Tally}
 use Rattle.lanes.specs.declared.Outcome.{Outcome}
 use Rattle.lanes.specs.declared.Outcome.the-variants.{Path, Barrier, Stock, Refusal}
@@ -35,9 +35,6 @@ use Rattle.lanes.specs.declared.Verdict.the-variants.{Refused, Yes, No}
 -- 1, then the file's questions
 abbrev pub roomFault : (buffer : List ℕ) → ℕ
 roomFault o = unless (leb 2048 (length o)) 1
-
-abbrev pub over : (new old : List ℕ) → List ℕ
-over xs old = xs ++ drop (length xs) old
 
 abbrev pub told : (number size : ℕ) → Told
 told n k = record { number = n; size = pick (eqb n 0) k 0 }

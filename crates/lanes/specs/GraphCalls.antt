@@ -8,9 +8,9 @@ use mathlib.Core.List.{List}
 use Prim.Native.Nat.{ℕ, _≤_}
 use Rattle.counting.specs.Tests.{pick}
 use Rattle.skew.specs.Graph.{Graph, isWanted, hasPath, canonical}
-use Rattle.lanes.specs.CertificateFile.{pathText, barrierText}
+use Rattle.files.specs.CertificateFile.{pathText, barrierText}
 use Rattle.lanes.specs.Entry.{tallied, GraphOwes, graphTally}
-use Rattle.lanes.specs.Answers.{WrittenFirst}
+use Rattle.files.specs.Answers.{WrittenFirst}
 use Rattle.lanes.specs.declared.Tally.{Tally}
 use Rattle.lanes.specs.declared.Told.{Told}
 use Rattle.lanes.specs.declared.Answer.{Answer}

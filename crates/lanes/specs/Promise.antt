@@ -13,16 +13,16 @@ use mathlib.Core.Logic.{_↔_}
 use mathlib.Core.Bool.{Bool, true, false, _&&_}
 use mathlib.Core.List.{List, [], _∷_}
 use Prim.Native.Nat.{ℕ, _≤_, _<_}
-use lib.Dec.{leb, eqb}
+use lib.Dec.{leb}
 use lib.ListN.{length, take}
 use Rattle.counting.specs.Pairs.{Pair, pair}
 use Rattle.frames.specs.Frames.{hexAt}
 use Rattle.skew.specs.Graph.{Graph, isRegular, isWanted, isReachable, hasPath, isBarrier, canonical}
 use Rattle.skew.specs.Promise.{SomePath}
 use Rattle.matching.specs.Promise.{LeftBySome, FitsSomeLeft}
-use Rattle.matching.specs.Stock.{Stock, isPairing, greatest, markOf, marksOf, isPlan}
-use Rattle.lanes.specs.GraphFile.{graphIn, graphFault}
-use Rattle.lanes.specs.StockFile.{stockIn, stockFault}
+use Rattle.matching.specs.Stock.{isPairing, greatest, markOf, marksOf, isPlan}
+use Rattle.files.specs.GraphFile.{graphIn, graphFault}
+use Rattle.files.specs.StockFile.{stockIn, stockFault, alike}
 use Rattle.lanes.specs.Entry.{sheetOfFile, sheetLeaves, sheetFault}
 
 unfoldable pub areBytes : List ℕ → Bool
@@ -62,17 +62,6 @@ MarksAre =
 -- DEMAND 3: what the call left at the buffer's front
 abbrev pub sheetIn : (file buffer : List ℕ) → List ℕ
 sheetIn f o = take (length (sheetOfFile f)) (sheetLeaves f o)
-
-unfoldable pub same : List ℕ → List ℕ → Bool
-same [] [] = true
-same [] (y ∷ ys) = false
-same (x ∷ xs) [] = false
-same (x ∷ xs) (y ∷ ys) = eqb x y && same xs ys
-
-abbrev pub alike : (one other : Stock) → Bool
-alike s t =
-    eqb (s .cameras) (t .cameras) && eqb (greatest (s .fits)) (greatest (t .fits)) &&
-    same (marksOf (s .cameras) (s .fits)) (marksOf (t .cameras) (t .fits))
 
 abbrev pub SheetsTell : Type 0
 SheetsTell =

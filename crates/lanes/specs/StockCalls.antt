@@ -10,9 +10,9 @@ use mathlib.Core.List.{List}
 use Prim.Native.Nat.{ℕ, _≤_}
 use Rattle.counting.specs.Pairs.{Pair}
 use Rattle.matching.specs.Stock.{Stock, isPlan}
-use Rattle.lanes.specs.StockFile.{planText, sheetText}
+use Rattle.files.specs.StockFile.{planText, sheetText}
 use Rattle.lanes.specs.Entry.{tallied, PlanOwes, sheetPost, sheetLeaves, stockTally}
-use Rattle.lanes.specs.Answers.{WrittenFirst}
+use Rattle.files.specs.Answers.{WrittenFirst}
 use Rattle.lanes.specs.declared.Tally.{Tally}
 use Rattle.lanes.specs.declared.Told.{Told}
 use Rattle.lanes.specs.declared.Answer.{Answer}

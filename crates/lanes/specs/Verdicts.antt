@@ -9,7 +9,7 @@ use Prim.Native.Nat.{ℕ, _+_}
 use lib.Dec.{eqb}
 use Rattle.counting.specs.Tests.{pick}
 use Rattle.skew.specs.Graph.{Graph, isWanted, isBarrier}
-use Rattle.lanes.specs.CertificateFile.{pathArcs, pathFault, barrierClasses, barrierFault, certFault, certHolds}
+use Rattle.files.specs.CertificateFile.{pathArcs, pathFault, barrierClasses, barrierFault, certFault, certHolds}
 use Rattle.lanes.specs.declared.Verdict.{Verdict}
 use Rattle.lanes.specs.declared.Verdict.the-variants.{Refused, Yes, No}
 

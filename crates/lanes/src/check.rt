@@ -1,15 +1,15 @@
 // The check (document 01, "Questions put to a call"): the graph's questions first, then the certificate's with 40 added, then whether it holds.
 use crate::Verdict;
-use crate::certificates::read_barrier;
-use crate::certificates::read_path;
-use crate::graphs::read_graph;
+use files::certificates::read_barrier;
+use files::certificates::read_path;
+use files::graphs::read_graph;
 use frames::write::begins_barrier;
-use search::barrier::is_barrier;
-use search::path::is_wanted;
+use judging::barrier::is_barrier;
+use judging::path::is_wanted;
 ghost use mathlib.Core.Path.{_≡_};
 ghost use Prim.Native.Nat.{_+_, _≤_};
 ghost use Rattle.counting.specs.Tests.{pick};
-ghost use Rattle.search.specs.Table.{graphOf, ArcTable};
+ghost use Rattle.arcs.specs.Table.{graphOf, ArcTable};
 ghost use Rattle.lanes.specs.Entry.{checkPost};
 ghost use Rattle.lanes.specs.Verdicts.{pathVerdict, barrierVerdict, certVerdict};
 ghost use Rattle.lanes.specs.declared.Verdict.the-variants.{Refused, Yes, No};

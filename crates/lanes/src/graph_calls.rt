@@ -3,16 +3,16 @@ use crate::Answer;
 use crate::Outcome;
 use crate::Tally;
 use crate::Told;
-use crate::answers::put_barrier;
-use crate::answers::put_path;
 use crate::counts::counted;
 use crate::counts::refuse;
-use crate::graphs::read_graph;
+use files::answers::put_barrier;
+use files::answers::put_path;
+use files::graphs::read_graph;
 use search::answer::path_or_barrier;
 ghost use mathlib.Core.Path.{_≡_};
 ghost use Prim.Native.Nat.{_*_, _≤_};
 ghost use lib.ListN.{length};
-ghost use Rattle.search.specs.Table.{graphOf, ArcTable};
+ghost use Rattle.arcs.specs.Table.{graphOf, ArcTable};
 ghost use Rattle.lanes.specs.GraphCalls.{graphAnswer, GraphWritten, GraphAnswered};
 
 // What was written: its bytes, and whether it is a path.

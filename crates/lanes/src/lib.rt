@@ -1,22 +1,12 @@
 // The pairing engine's calls.
-//   questions    questions 9 to 14, over the numbers of a file
-//   answers      answers written into a lent buffer
-//   graphs       graph files read
 //   graph_calls  a graph answered with a path or a barrier
-//   stocks       stock files read
 //   stock_calls  a stock answered with a plan or a standing sheet
-//   certificates paths and barriers read
 //   check        the call that checks a certificate
 //   counts       the tally, counted up
-pub mod answers;
-pub mod certificates;
 pub mod check;
 pub mod counts;
 pub mod graph_calls;
-pub mod graphs;
-pub mod questions;
 pub mod stock_calls;
-pub mod stocks;
 
 use graph_calls::answer_graph_by;
 use stock_calls::plan_by;

@@ -15,8 +15,8 @@ use Rattle.counting.specs.Tests.{all}
 use Rattle.counting.proofs.Booleans.{by-test}
 use Rattle.frames.specs.Frames.{Form, orElse, unless, isWholeFile, hasHeader, hasBody, countAgrees, shapeFault, graphForm}
 use Rattle.skew.specs.Graph.{matesFit}
-use Rattle.lanes.specs.GraphFile.{headerFits, graphIn, arcNamed, graphFault}
-use Rattle.lanes.specs.CertificateFile.{certFault}
+use Rattle.files.specs.GraphFile.{headerFits, graphIn, arcNamed, graphFault}
+use Rattle.files.specs.CertificateFile.{certFault}
 use Rattle.lanes.specs.Entry.{checkFault}
 
 abbrev pub NoneOrHigh : ℕ → Type 0

@@ -18,10 +18,11 @@ use Rattle.counting.proofs.Booleans.{true-false}
 use Rattle.skew.specs.Graph.{hasPath, isWanted, canonical}
 use Rattle.frames.specs.Writes.{Written}
 use Rattle.frames.proofs.Writes.{written-over, frame4-length}
-use Rattle.lanes.specs.GraphFile.{graphIn, graphFault}
-use Rattle.lanes.specs.StockFile.{stockFault, planText}
-use Rattle.lanes.specs.CertificateFile.{pathText, barrierText}
-use Rattle.lanes.specs.Entry.{over, refusalLine, told, answerFault, sheetFault, Answers, GraphOwes, PlanOwes, sheetPost, sheetLeaves, sheetOfFile}
+use Rattle.files.specs.GraphFile.{graphIn, graphFault}
+use Rattle.files.specs.StockFile.{stockFault, planText}
+use Rattle.files.specs.CertificateFile.{pathText, barrierText}
+use Rattle.files.specs.Answers.{over}
+use Rattle.lanes.specs.Entry.{refusalLine, told, answerFault, sheetFault, Answers, GraphOwes, PlanOwes, sheetPost, sheetLeaves, sheetOfFile}
 use Rattle.lanes.specs.declared.Told.{Told}
 use Rattle.lanes_print.specs.Printed.{RefusedOr, GraphAnswer, GraphText, PlanAnswer, PlanText, sheetPrinted, Shows, PrintsOne, Prints}
 

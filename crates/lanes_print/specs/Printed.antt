@@ -17,11 +17,11 @@ use Rattle.counting.specs.Tests.{pick}
 use Rattle.counting.specs.Pairs.{Pair}
 use Rattle.skew.specs.Graph.{hasPath, isWanted, canonical}
 use Rattle.matching.specs.Stock.{isPlan}
-use Rattle.lanes.specs.GraphFile.{graphIn, graphFault}
-use Rattle.lanes.specs.StockFile.{stockIn, stockFault, planText}
-use Rattle.lanes.specs.CertificateFile.{pathText, barrierText}
-use Rattle.lanes.specs.Entry.{over, refusalLine, sheetOfFile, checkPost, verdictLine}
-use Rattle.lanes.specs.Answers.{WrittenFirst}
+use Rattle.files.specs.GraphFile.{graphIn, graphFault}
+use Rattle.files.specs.StockFile.{stockIn, stockFault, planText}
+use Rattle.files.specs.CertificateFile.{pathText, barrierText}
+use Rattle.lanes.specs.Entry.{refusalLine, sheetOfFile, checkPost, verdictLine}
+use Rattle.files.specs.Answers.{over, WrittenFirst}
 use Rattle.lanes.specs.declared.Told.{Told}
 
 -- WHAT IS PRINTED

@@ -17,7 +17,7 @@ use Rattle.counting.specs.Pairs.{Pair, pair, noPair, zipPairs}
 use Rattle.counting.proofs.Membership.{getD-in}
 use Rattle.counting.proofs.Zips.{zip-length, zip-at}
 use Rattle.counting.proofs.Range.{length-up, up-cons, up-none}
-use Rattle.search.proofs.Tables.{arcs-zip}
+use Rattle.arcs.proofs.Tables.{arcs-zip}
 use Rattle.matching.specs.Matching.{Matching}
 use Rattle.matching.specs.Row.{partnerIn}
 use Rattle.matching.specs.DoubledTable.{arcsOfCamera, cameraArcs, arcsOfFit, fitArcs}

@@ -8,7 +8,7 @@ use lib.ListN.{length, getD, drop, length-drop}
 use lib.Seq.{drop-cons}
 use Rattle.skew.specs.Graph.{Graph}
 use Rattle.skew.specs.Paths.{tail, head}
-use Rattle.search.proofs.Tables.{arcs-length, tail-is, head-is}
+use Rattle.arcs.proofs.Tables.{arcs-length, tail-is, head-is}
 use Rattle.matching.specs.Rotation.{rotate, rotateAlong, Rotates}
 use Rattle.matching.specs.Row.{partnerIn, rotateRow}
 use Rattle.matching.proofs.Rows.{row-partner, length-rotate, rotate-row}

@@ -16,7 +16,7 @@ use Rattle.counting.specs.Pairs.{Pair, zipPairs}
 use Rattle.counting.proofs.Booleans.{true-false}
 use Rattle.skew.specs.Graph.{Graph, nodes, isWanted, isReachable, hasPath, canonical}
 use Rattle.skew.specs.Paths.{WellFormed}
-use Rattle.search.specs.Table.{graphOf, ArcTable}
+use Rattle.arcs.specs.Table.{graphOf, ArcTable}
 use Rattle.search.specs.Answer.{Answered}
 use Rattle.search.specs.declared.answer.Answer.{Answer}
 use Rattle.search.specs.declared.answer.Answer.the-variants.{Path, Barrier}

@@ -10,7 +10,7 @@ use lib.ListN.{length, getD, drop}
 use Rattle.counting.specs.Tests.{upFrom}
 use Rattle.counting.specs.Pairs.{Pair}
 use Rattle.skew.specs.Graph.{Graph}
-use Rattle.search.specs.Table.{graphOf}
+use Rattle.arcs.specs.Table.{graphOf}
 use Rattle.matching.specs.Matching.{pairsInOrder}
 use Rattle.matching.specs.Rotation.{rotateAlong, Rotates}
 use Rattle.matching.specs.Row.{partnerIn, rotateRow}

@@ -14,7 +14,7 @@ use Prim.Native.Nat.{ℕ, suc, _+_, _-_, _*_, _≤_, _<_}
 use lib.ListN.{length, getD, take, drop}
 use Rattle.counting.specs.Tests.{upFrom}
 use Rattle.counting.specs.Pairs.{Pair, zipPairs, pairsOf}
-use Rattle.search.specs.Table.{graphOf}
+use Rattle.arcs.specs.Table.{graphOf}
 use Rattle.matching.specs.Stock.{Stock}
 use Rattle.matching.specs.Matching.{FitsBelow}
 use Rattle.matching.specs.Row.{partnerIn}

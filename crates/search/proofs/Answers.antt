@@ -21,12 +21,12 @@ use Rattle.skew.specs.Paths.{head, WellFormed}
 use Rattle.skew.specs.Search.{State, Earlier}
 use Rattle.skew.proofs.Paths.{regular-path, nodes-within, length-nodes}
 use Rattle.skew.proofs.Restoration.{restored-path}
-use Rattle.search.specs.Table.{graphOf}
+use Rattle.arcs.specs.Table.{graphOf}
 use Rattle.search.specs.State.{stateOf, Clear}
 use Rattle.search.specs.Queue.{Ended}
 use Rattle.search.specs.Restore.{Route, LabelTable, Restorable, Restored}
 use Rattle.search.specs.ClassTable.{Barred}
-use Rattle.search.proofs.Tables.{tail-is, head-is, arcs-length}
+use Rattle.arcs.proofs.Tables.{tail-is, head-is, arcs-length}
 use Rattle.search.proofs.ClassTables.{no-path, table-reached}
 
 pub wanted-short : (g : Graph) → WellFormed g → (p : List ℕ) → isWanted g p ≡ true → length p < nodes g

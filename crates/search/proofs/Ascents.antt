@@ -23,10 +23,10 @@ use Rattle.skew.specs.Ascent.{Bridge, Ascent, AddsBase, AscentEnds}
 use Rattle.skew.proofs.Mates.{mate-mate, mate-below}
 use Rattle.skew.proofs.Mirror.{bridge-mirror, ascent-mirror}
 use Rattle.skew.proofs.Ascent.{ascent-at, ascent-absorb, ascent-arc, ascent-same}
-use Rattle.search.specs.Table.{graphOf}
+use Rattle.arcs.specs.Table.{graphOf}
 use Rattle.search.specs.State.{stateOf, SearchHeld, Clear, marksOf, viasOf}
 use Rattle.search.specs.Steps.{Bridging, labelled, Absorbs, Absorbed, Ascended}
-use Rattle.search.proofs.Tables.{tail-is, head-is, in-arcs, tail-node, head-node}
+use Rattle.arcs.proofs.Tables.{tail-is, head-is, in-arcs, tail-node, head-node}
 use Rattle.search.proofs.States.{base-at, reached-is-node, unreached-is, not-reached}
 
 -- AN ARC'S BOUNDS

@@ -22,7 +22,7 @@ use Rattle.skew.proofs.Mates.{mate-below}
 use Rattle.skew.proofs.BudStep.{bud-step-keeps}
 use Rattle.skew.proofs.Measure.{bud-step-less}
 use Rattle.skew.proofs.Settled.{bud-step-settled, bud-step-settles}
-use Rattle.search.specs.Table.{graphOf}
+use Rattle.arcs.specs.Table.{graphOf}
 use Rattle.search.specs.State.{stateOf, StateHeld, SearchHeld, marksOf, viasOf}
 use Rattle.search.specs.Steps.{Mapped, birthAfter, birthsAfter, basesAfter, zeroed, Bridging, Ascended, bornBefore, BudStepped}
 use Rattle.search.proofs.States.{getD-any, not-reached, reached-is, unreached-is, base-at, reached-is-node, cleared}

@@ -24,7 +24,7 @@ use Rattle.skew.specs.Forest.{BothReached, root, rootOf}
 use Rattle.skew.proofs.Mates.{mate-is, mate-mate, mate-below}
 use Rattle.skew.proofs.Exact.{reachable-is}
 use Rattle.skew.proofs.Canonical.{both-x-node, x-node-both, x-nodes-distinct, part-least-both, part-least-min, part-number-same}
-use Rattle.search.specs.Table.{graphOf}
+use Rattle.arcs.specs.Table.{graphOf}
 use Rattle.search.specs.State.{Clear}
 use Rattle.search.specs.ClassTable.{Barred, endState, InBud, RootFound, firstsBefore, Classing}
 use Rattle.search.proofs.States.{is-reached, not-reached}

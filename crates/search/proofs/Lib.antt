@@ -1,8 +1,4 @@
 -- Laws, by subject.
---   Judging      tests of each element of a list, judged by a loop
---   Tables       the arc table as a list of arcs
---   Barriers     classes between which an arc may go, entries counted
---   Walks        runs of arcs judged arc by arc
 --   Maps         lists mapped in place
 --   States       the tables as a state
 --   TreeSteps    the tree step on the tables
@@ -16,10 +12,6 @@
 --   Roots        the root of a node's tree of buds
 --   ClassTables  the class table, node by node
 --   Answers      from the search's end to its answer
-pub mod Judging
-pub mod Tables
-pub mod Barriers
-pub mod Walks
 pub mod Maps
 pub mod States
 pub mod TreeSteps

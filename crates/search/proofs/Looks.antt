@@ -21,11 +21,11 @@ use Rattle.skew.specs.Search.{State, Invariant}
 use Rattle.skew.specs.Steps.{Settled}
 use Rattle.skew.proofs.Mates.{mate-below}
 use Rattle.skew.proofs.Settled.{tree-step-reached, tree-step-settled}
-use Rattle.search.specs.Table.{graphOf}
+use Rattle.arcs.specs.Table.{graphOf}
 use Rattle.search.specs.State.{stateOf, SearchHeld, Clear}
 use Rattle.search.specs.Steps.{NewHead, TreeStepped, Bridging, Later, BudStepped}
 use Rattle.search.specs.Queue.{Queued, queuedBelow, Enqueued, Leaving, ReachedArc, Decided, Looked}
-use Rattle.search.proofs.Tables.{tail-is, head-is}
+use Rattle.arcs.proofs.Tables.{tail-is, head-is}
 use Rattle.search.proofs.States.{is-reached, not-reached, base-at, reached-is-node}
 use Rattle.search.proofs.Ascents.{ArcBounds, arc-bounds}
 use Rattle.search.proofs.Queues.{queued-same, enqueued-same, enqueued-none, enqueued-add, queue-room}

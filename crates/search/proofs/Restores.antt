@@ -23,9 +23,9 @@ use Rattle.skew.specs.Graph.{Graph, mate}
 use Rattle.skew.specs.Paths.{tail, head, Joins}
 use Rattle.skew.specs.Segments.{done, step}
 use Rattle.skew.proofs.Segments.{seg-unique, seg-joins}
-use Rattle.search.specs.Table.{graphOf}
+use Rattle.arcs.specs.Table.{graphOf}
 use Rattle.search.specs.Restore.{Route, LabelTable, Restorable, Restored, MateReversed}
-use Rattle.search.proofs.Tables.{tail-is, head-is, in-arcs, tail-node, head-node}
+use Rattle.arcs.proofs.Tables.{tail-is, head-is, in-arcs, tail-node, head-node}
 use Rattle.search.proofs.States.{not-reached}
 use Rattle.search.proofs.Reverses.{reversed-sets}
 

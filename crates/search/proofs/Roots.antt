@@ -16,9 +16,9 @@ use Rattle.skew.specs.Paths.{tail}
 use Rattle.skew.specs.Forest.{BudBase, root, rootOf}
 use Rattle.skew.proofs.Mates.{mate-below}
 use Rattle.skew.proofs.Forest.{bud-base, bud-arc, tail-both, root-up, root-stop}
-use Rattle.search.specs.Table.{graphOf}
+use Rattle.arcs.specs.Table.{graphOf}
 use Rattle.search.specs.ClassTable.{Barred, endState, InBud, RootFound}
-use Rattle.search.proofs.Tables.{tail-is, in-arcs, tail-node}
+use Rattle.arcs.proofs.Tables.{tail-is, in-arcs, tail-node}
 use Rattle.search.proofs.States.{is-reached, not-reached, base-at, reached-is-node}
 
 module _ (n s : ℕ) (ts hs bs vs ss : List ℕ) where

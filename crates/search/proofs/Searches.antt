@@ -31,11 +31,11 @@ use Rattle.skew.proofs.Mates.{mate-below}
 use Rattle.skew.proofs.Measure.{weigh-two}
 use Rattle.skew.proofs.Start.{start-keeps}
 use Rattle.skew.proofs.Scan.{scan-past, scan-look, scan-done, scan-switch, scan-start, scan-closed}
-use Rattle.search.specs.Table.{graphOf, ArcTable}
+use Rattle.arcs.specs.Table.{graphOf, ArcTable}
 use Rattle.search.specs.State.{stateOf, Clear}
 use Rattle.search.specs.Steps.{Mapped}
 use Rattle.search.specs.Queue.{Leaving, Looked, NextArc, takenOf, Searching, Scanned, doubled, Ended}
-use Rattle.search.proofs.Tables.{tail-is, arc-in, arcs-length}
+use Rattle.arcs.proofs.Tables.{tail-is, arc-in, arcs-length}
 use Rattle.search.proofs.States.{getD-any, is-reached, not-reached, mate-half, half-pair}
 use Rattle.search.proofs.Queues.{enqueued-none, enqueued-add, kept-short}
 

@@ -15,7 +15,7 @@ use Rattle.skew.specs.Graph.{Graph, mate, classOf, partNumber, isFirst, xNodes}
 use Rattle.skew.specs.Search.{State}
 use Rattle.skew.specs.Steps.{Closed}
 use Rattle.skew.specs.Forest.{BothReached, rootOf}
-use Rattle.search.specs.Table.{graphOf}
+use Rattle.arcs.specs.Table.{graphOf}
 use Rattle.search.specs.State.{stateOf, SearchHeld}
 
 pub record Barred (n s : ℕ) (ts hs bs vs ss : List ℕ) : Type 0 where

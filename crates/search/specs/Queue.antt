@@ -26,7 +26,7 @@ use Rattle.skew.specs.Search.{State}
 use Rattle.skew.specs.Steps.{Settled, SettledArc, Touched, Closed}
 use Rattle.skew.specs.Ascent.{Unsettled}
 use Rattle.skew.specs.Scan.{Scanning}
-use Rattle.search.specs.Table.{graphOf}
+use Rattle.arcs.specs.Table.{graphOf}
 use Rattle.search.specs.State.{stateOf, StateHeld, SearchHeld, Clear}
 use Rattle.search.specs.Steps.{Later}
 

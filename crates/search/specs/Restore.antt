@@ -14,7 +14,7 @@ use lib.ListN.{length, getD}
 use lib.Seq.{sets}
 use Rattle.skew.specs.Graph.{Graph, mate}
 use Rattle.skew.specs.Segments.{Seg}
-use Rattle.search.specs.Table.{graphOf, ArcTable}
+use Rattle.arcs.specs.Table.{graphOf, ArcTable}
 
 abbrev pub Route : Graph → (births vias : List ℕ) → (stop v : ℕ) → List ℕ → Type 0
 Route g bs vs = Seg g (λ (u : ℕ). ltb 0 (getD bs u 0)) (λ (u : ℕ). getD vs u 0)

@@ -14,7 +14,7 @@ use lib.ListN.{length, getD}
 use Rattle.skew.specs.Graph.{Graph, nodes}
 use Rattle.skew.specs.Search.{State, Invariant}
 use Rattle.skew.specs.Measure.{total}
-use Rattle.search.specs.Table.{graphOf, ArcTable}
+use Rattle.arcs.specs.Table.{graphOf, ArcTable}
 
 abbrev pub stateOf : (births vias bases : List ℕ) (clock : ℕ) → State
 stateOf bs vs ss k =

@@ -2,14 +2,14 @@
 ghost use Prim.Native.Nat.{_*_, _≤_};
 ghost use mathlib.Core.Path.{_≡_};
 ghost use lib.ListN.{length};
-ghost use Rattle.search.specs.Table.{graphOf, ArcTable};
+ghost use Rattle.arcs.specs.Table.{graphOf, ArcTable};
 ghost use Rattle.search.specs.State.{Clear};
 ghost use Rattle.search.specs.Answer.{Answered};
 use crate::classes::classes;
-use crate::node::mate_of;
 use crate::restore::restore;
 use crate::search::search;
 use crate::steps::clear;
+use arcs::node::mate_of;
 
 pub enum Answer {
     // The number of the path's arcs.

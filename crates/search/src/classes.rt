@@ -6,12 +6,12 @@ ghost use mathlib.Core.Path.{_≡_};
 ghost use Prim.Native.Nat.{_+_, _*_, _<_};
 ghost use lib.ListN.{length};
 ghost use Rattle.skew.specs.Graph.{canonical};
-ghost use Rattle.search.specs.Table.{graphOf};
+ghost use Rattle.arcs.specs.Table.{graphOf};
 ghost use Rattle.search.specs.State.{Clear};
 ghost use Rattle.search.specs.ClassTable.{Barred, InBud, RootFound, Classing};
-use crate::node::mate_of;
-use crate::node::narrow;
-use crate::node::wide;
+use arcs::node::mate_of;
+use arcs::node::narrow;
+use arcs::node::wide;
 
 fn root_of(
     pairs: usize,

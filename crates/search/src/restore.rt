@@ -4,8 +4,8 @@
 ghost use Prim.Native.Nat.{ℕ, _≤_, _<_};
 ghost use lib.ListN.{length, getD};
 ghost use Rattle.search.specs.Restore.{Restorable, Restored, MateReversed};
-use crate::node::mate_of;
-use crate::node::wide;
+use arcs::node::mate_of;
+use arcs::node::wide;
 
 fn mate_reverse(arcs: &mut [usize], from: usize, to: usize)
     requires { ⌜ (from ≤ to) × (to ≤ length (now arcs)) ⌝ }

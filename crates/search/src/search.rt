@@ -6,14 +6,14 @@
 ghost use mathlib.Core.Path.{_≡_};
 ghost use Prim.Native.Nat.{_+_, _*_, _≤_, _<_};
 ghost use lib.ListN.{length};
-ghost use Rattle.search.specs.Table.{graphOf, ArcTable};
+ghost use Rattle.arcs.specs.Table.{graphOf, ArcTable};
 ghost use Rattle.search.specs.State.{stateOf, SearchHeld, Clear};
 ghost use Rattle.search.specs.Steps.{Mapped};
 ghost use Rattle.search.specs.Queue.{Queued, queuedBelow, Enqueued, Leaving, ReachedArc, Decided, Looked, NextArc, Searching, doubled, Ended};
-use crate::node::mate_of;
-use crate::node::wide;
 use crate::steps::bud_step;
 use crate::steps::tree_step;
+use arcs::node::mate_of;
+use arcs::node::wide;
 
 // The clock, which numbers the next event, and the number of nodes in the queue.
 pub struct Progress {

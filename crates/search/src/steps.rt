@@ -5,11 +5,11 @@
 ghost use mathlib.Core.Path.{_≡_};
 ghost use Prim.Native.Nat.{ℕ, _+_, _*_, _<_};
 ghost use lib.ListN.{length, getD};
-ghost use Rattle.search.specs.Table.{graphOf};
+ghost use Rattle.arcs.specs.Table.{graphOf};
 ghost use Rattle.search.specs.State.{stateOf, SearchHeld, Clear};
 ghost use Rattle.search.specs.Steps.{Mapped, birthAfter, baseAfter, birthsAfter, basesAfter, zeroed, NewHead, TreeStepped, Bridging, labelled, Absorbs, Absorbed, Ascended, BudStepped};
-use crate::node::mate_of;
-use crate::node::wide;
+use arcs::node::mate_of;
+use arcs::node::wide;
 
 // The arc's head is reached.
 pub fn tree_step(

@@ -1,7 +1,7 @@
 -- `lanes::check::check` meets its contract: the graph refused, or the certificate judged over the graph that was read. Assumes nothing.
 use mathlib.Core.Path.{sym, _∙_}
 use lib.Seq.{length-take-le}
-use Rattle.lanes.proofs.ArcTables.{held-table}
+use Rattle.files.proofs.ArcTables.{held-table}
 use Rattle.lanes.proofs.Verdicts.{check-refused, check-judged}
 use borrow.Author.Needs.{needs}
 use Rattle.lanes.proofs.check.check.Statement.{statement}

@@ -1,6 +1,6 @@
 -- `lanes::check::judge` meets its contract: the answer by the file's first line is the certificate's. Assumes nothing.
 use mathlib.Core.Path.{sym, _∙_}
-use Rattle.search.specs.Table.{graphOf}
+use Rattle.arcs.specs.Table.{graphOf}
 use Rattle.lanes.proofs.Verdicts.{barrier-verdict, path-verdict}
 use borrow.Author.Needs.{needs}
 use Rattle.lanes.proofs.check.judge.Statement.{statement}

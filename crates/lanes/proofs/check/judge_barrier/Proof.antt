@@ -3,7 +3,7 @@ use mathlib.Core.Path.{refl, ap, sym, _∙_}
 use mathlib.Core.Bool.{Bool}
 use lib.Seq.{length-take-le}
 use Rattle.counting.specs.Tests.{pick}
-use Rattle.search.specs.Table.{graphOf}
+use Rattle.arcs.specs.Table.{graphOf}
 use Rattle.lanes.specs.declared.Verdict.the-variants.{Yes, No}
 use Rattle.lanes.proofs.Verdicts.{barrier-refused, barrier-judged}
 use borrow.Author.Needs.{needs}

@@ -3,8 +3,8 @@ use mathlib.Core.Path.{ap, sym, _∙_}
 use mathlib.Core.Bool.{Bool}
 use lib.Seq.{length-take-le}
 use Rattle.counting.specs.Tests.{pick}
-use Rattle.search.specs.Table.{graphOf}
-use Rattle.search.proofs.Tables.{arcs-length}
+use Rattle.arcs.specs.Table.{graphOf}
+use Rattle.arcs.proofs.Tables.{arcs-length}
 use Rattle.lanes.specs.declared.Verdict.the-variants.{Yes, No}
 use Rattle.lanes.proofs.Verdicts.{path-refused, path-judged}
 use borrow.Author.Needs.{needs}

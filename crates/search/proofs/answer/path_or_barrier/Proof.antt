@@ -2,7 +2,7 @@
 use mathlib.Core.Path.{sym}
 use native.Mathlib.Omega.{arith}
 use lib.Seq.{length-take-le}
-use Rattle.search.specs.Table.{graphOf}
+use Rattle.arcs.specs.Table.{graphOf}
 use Rattle.search.proofs.States.{cleared}
 use Rattle.search.proofs.Answers.{front-clear}
 use borrow.Author.Needs.{needs}

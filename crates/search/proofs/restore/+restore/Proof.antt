@@ -12,8 +12,8 @@ use borrow.Fn.PlainCycle.{Measures, is, falls, and}
 use Rattle.search.proofs.restore.restore.Reads as restore
 use Rattle.search.proofs.restore.restore.Kinds as restore-kinds
 use Rattle.search.proofs.restore.+restore.Lts-restore as restore-lts
-use Rattle.search.proofs.node.mate_of.Reads as mate-of-reads
-use Rattle.search.proofs.node.wide.Reads as wide-reads
+use Rattle.arcs.proofs.node.mate_of.Reads as mate-of-reads
+use Rattle.arcs.proofs.node.wide.Reads as wide-reads
 use Rattle.search.proofs.restore.mate_reverse.Reads as mate-reverse-reads
 use Rattle.search.proofs.restore.+restore.{statement}
 use Rattle.search.proofs.restore.+restore.Tie.{close}

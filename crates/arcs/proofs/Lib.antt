@@ -1,0 +1,3 @@
+-- Laws, by subject.
+--   Tables       the arc table as a list of arcs
+pub mod Tables

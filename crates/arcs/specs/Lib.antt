@@ -1,0 +1,3 @@
+-- What the lent tables hold.
+--   Table      the arc table, and its graph
+pub mod Table

@@ -1,0 +1,30 @@
+-- The arc table that a caller lends: the arcs' tails and heads as lists of bytes, and the graph of it.
+--   arcsOf                  the arcs, in order
+--   graphOf                 the graph of the table
+--   Covers ts hs n          each end of each arc is below n
+--   ArcTable n s ts hs      what the questions put to a graph settle: a well-formed graph within the limits of document 01
+use mathlib.Core.Path.{_≡_}
+use mathlib.Core.List.{List, [], _∷_}
+use Prim.Native.Nat.{ℕ, _≤_, _<_}
+use lib.ListN.{length, getD, drop}
+use Rattle.counting.specs.Pairs.{Pair, pair}
+use Rattle.skew.specs.Graph.{Graph}
+use Rattle.skew.specs.Paths.{WellFormed}
+
+unfoldable pub arcsOf : (tails heads : List ℕ) → List Pair
+arcsOf [] hs = []
+arcsOf (t ∷ ts) hs = pair t (getD hs 0 0) ∷ arcsOf ts (drop 1 hs)
+
+abbrev pub graphOf : (pairs source : ℕ) (tails heads : List ℕ) → Graph
+graphOf n s ts hs = record { pairs = n; source = s; arcs = arcsOf ts hs }
+
+pub record Covers (ts hs : List ℕ) (n : ℕ) : Type 0 where
+  pub same : length hs ≡ length ts
+  pub tails : (i : ℕ) → i < length ts → getD ts i 0 < n
+  pub heads : (i : ℕ) → i < length ts → getD hs i 0 < n
+
+pub record ArcTable (n s : ℕ) (ts hs : List ℕ) : Type 0 where
+  pub well-formed : WellFormed (graphOf n s ts hs)
+  pub as-long : length hs ≡ length ts
+  pub pairs-few : n ≤ 128
+  pub arcs-few : length ts ≤ 8192

@@ -1,0 +1,103 @@
+-- Lines of an answer, seven bytes for each value, written one behind the other. Assumes nothing.
+--   writing-start, writing-step, writing-end    none is written; one more is; all are
+--   class-lines, mark-lines, path-lines         document 03's lines are such lines
+--   plan-text                                   and so are a plan's, by first cameras, the second ones looked up
+--   plan-size, sheet-size                       how many bytes a plan and a standing sheet take
+--   first-written                               three parts written one behind the other from the front on, as document 03 has it
+use mathlib.Core.Path.{_≡_, refl, ap, sym, _∙_}
+use mathlib.Core.List.{List, [], _∷_, _++_}
+use Prim.Native.Nat.{ℕ, suc, _+_, _*_, _≤_, _<_}
+use native.Mathlib.Omega.{arith}
+use native.Mathlib.Numerals.{add-one}
+use lib.ListN.{length, getD, drop, length-append, drop-of-length-le}
+use lib.Seq.{length-sets, drop-cons}
+use Rattle.counting.specs.Pairs.{Pair, zipPairs}
+use Rattle.counting.proofs.Zips.{zip-length}
+use Rattle.frames.specs.Frames.{frame4, frame6, frameOf4}
+use Rattle.frames.specs.Writes.{Written}
+use Rattle.frames.proofs.Writes.{written-rest, written-then, written-over, hexBytes-length, frame6-length}
+use Rattle.files.specs.StockFile.{markLines, planLines, planText}
+use Rattle.files.specs.CertificateFile.{pathLines, classLines}
+use Rattle.files.specs.Answers.{eachLine, Writing, WrittenFirst}
+use Rattle.files.proofs.Scans.{drop-next}
+
+-- LINE BY LINE
+each-length : (f : ℕ → ℕ → List ℕ) (i : ℕ) (xs : List ℕ) → ((i x : ℕ) → length (f i x) ≡ 7) → length (eachLine f i xs) ≡ 7 * length xs
+unfolding eachLine
+each-length f i [] h = refl
+each-length f i (x ∷ xs) h = rw (length-append, h i x, each-length f (suc i) xs h) (omega arith)
+
+pub writing-start : (f : ℕ → ℕ → List ℕ) (xs out : List ℕ) (at : ℕ) → Writing f xs out at out at 0
+writing-start f xs out at = record { within = omega arith; place = omega arith; long = refl; rest = refl }
+
+module _ {f : ℕ → ℕ → List ℕ} {xs before : List ℕ} {at : ℕ} {out : List ℕ} {next i : ℕ} (w : Writing f xs before at out next i) where
+  pub writing-step : {after : List ℕ} {end : ℕ} → i < length xs → Written out next 7 (f i (getD xs i 0)) after end →
+      Writing f xs before at after end (i + 1)
+  unfolding eachLine
+  writing-step {after} {end} h v =
+      let e : eachLine f i (drop i xs) ≡ f i (getD xs i 0) ++ eachLine f (i + 1) (drop (i + 1) xs) = rw (drop-next xs 0 i h, add-one) in
+      let l : length after ≡ length out = rw (v .bytes) (length-sets out next (f i (getD xs i 0))) in
+      record {
+        within = omega arith;
+        place = omega (arith, w .place, v .place);
+        long = l ∙ w .long;
+        rest = w .rest ∙ rw e (sym (written-rest v (eachLine f (i + 1) (drop (i + 1) xs))));
+      }
+
+  pub writing-end : ((i x : ℕ) → length (f i x) ≡ 7) → length xs ≤ i → Written before at (7 * length xs) (eachLine f 0 xs) out next
+  unfolding eachLine
+  writing-end h k =
+      let e : eachLine f i (drop i xs) ≡ [] = rw (drop-of-length-le xs k) in
+      record {
+        bytes = sym (w .rest ∙ rw e);
+        full = each-length f 0 xs h;
+        place = omega (arith, w .place, w .within);
+      }
+
+-- DOCUMENT 03'S LINES
+pub class-lines : (v : ℕ) (cs : List ℕ) → eachLine (frame6 50) v cs ≡ classLines v cs
+unfolding eachLine classLines
+class-lines v [] = refl
+class-lines v (c ∷ cs) = ap (λ (t : List ℕ). frame6 50 v c ++ t) (class-lines (suc v) cs)
+
+pub mark-lines : (u : ℕ) (ms : List ℕ) → eachLine (frame6 67) u ms ≡ markLines u ms
+unfolding eachLine markLines
+mark-lines u [] = refl
+mark-lines u (m ∷ ms) = ap (λ (t : List ℕ). frame6 67 u m ++ t) (mark-lines (suc u) ms)
+
+pub path-lines : (n : ℕ) (is : List ℕ) → eachLine (λ (i : ℕ) (x : ℕ). frameOf4 34 x) n is ≡ pathLines is
+unfolding eachLine pathLines
+path-lines n [] = refl
+path-lines n (i ∷ is) = ap (λ (t : List ℕ). frameOf4 34 i ++ t) (path-lines (suc n) is)
+
+pair-lines : (n : ℕ) (us vs : List ℕ) → n + length us ≡ length vs →
+    eachLine (λ (i : ℕ) (x : ℕ). frame6 82 x (getD vs i 0)) n us ≡ planLines (zipPairs us (drop n vs))
+unfolding eachLine planLines zipPairs
+pair-lines n [] vs h = refl
+pair-lines n (u ∷ us) vs h =
+    let e : drop n vs ≡ getD vs n 0 ∷ drop (suc n) vs = drop-cons vs n 0 (omega arith) in
+    rw e (ap (λ (t : List ℕ). frame6 82 u (getD vs n 0) ++ t) (pair-lines (suc n) us vs (omega arith)))
+
+pub plan-text : (us vs : List ℕ) → length vs ≡ length us →
+    frame4 81 (length us) ++ eachLine (λ (i : ℕ) (x : ℕ). frame6 82 x (getD vs i 0)) 0 us ++ frameOf4 95 (length us) ≡ planText (zipPairs us vs)
+plan-text us vs e = rw (pair-lines 0 us vs (omega arith), zip-length us vs e)
+
+-- SIZES
+plan-lines-length : (ps : List Pair) → length (planLines ps) ≡ 7 * length ps
+unfolding planLines
+plan-lines-length [] = refl
+plan-lines-length (x ∷ xs) = simp (length-append, hexBytes-length) (omega (arith, plan-lines-length xs))
+
+pub plan-size : (ps : List Pair) → length (planText ps) ≡ 12 + 7 * length ps
+plan-size ps = simp (length-append, hexBytes-length) (omega (arith, plan-lines-length ps))
+
+mark-lines-length : (u : ℕ) (ms : List ℕ) → length (markLines u ms) ≡ 7 * length ms
+mark-lines-length u ms = rw (mark-lines u ms) at (each-length (frame6 67) u ms (frame6-length 67))
+
+pub sheet-size : (pairs cameras : ℕ) (ms : List ℕ) → length (frame4 65 pairs ++ markLines 0 ms ++ frameOf4 79 cameras) ≡ 12 + 7 * length ms
+sheet-size k n ms = simp (length-append, hexBytes-length) (omega (arith, mark-lines-length 0 ms))
+
+-- THREE PARTS: header, body and end frame
+pub first-written : {l₀ l₁ l₂ l₃ x y z : List ℕ} {a b c p q r : ℕ} → Written l₀ 0 a x l₁ p → Written l₁ p b y l₂ q → Written l₂ q c z l₃ r →
+    a + b + c ≤ length l₀ → WrittenFirst (x ++ y ++ z) l₀ l₃ r
+first-written u v w h = let o = written-over (written-then (written-then u v) w) h in record { bytes = o .0; told = o .1 }

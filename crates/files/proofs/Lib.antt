@@ -1,0 +1,25 @@
+-- Laws by subject; each file stands on those above it.
+--   Scans            a list asked from its front
+--   Tables           pairs that stand in two slices
+--   PairScans        questions 9 to 13 put to such pairs from the front
+--   SharedCameras    question 14, with a table of marks
+--   AnswerLines      answers written line by line
+--   AcceptedFiles    what the questions settle of a file
+--   SheetBytes       what a standing sheet's bytes tell
+--   Bodies           body lines counted
+--   GraphFiles       the questions of a graph file
+--   StockFiles       the questions of a stock file
+--   CertificateFiles the questions of a certificate
+--   ArcTables        a graph that was read, as the search takes it
+pub mod Scans
+pub mod Tables
+pub mod PairScans
+pub mod SharedCameras
+pub mod AnswerLines
+pub mod AcceptedFiles
+pub mod SheetBytes
+pub mod Bodies
+pub mod GraphFiles
+pub mod StockFiles
+pub mod CertificateFiles
+pub mod ArcTables

@@ -1,0 +1,112 @@
+-- A standing sheet's bytes tell its number of cameras, its greatest number of pairs and every mark. Assumes nothing.
+--   sheets-alike, alike-sheets    two sheets are the same bytes exactly when cameras, greatest number and marks are
+--   sheet-number                  the number in its header is the greatest number of pairs
+use mathlib.Core.Path.{_≡_, refl, sym, ap, subst, _∙_}
+use mathlib.Core.Logic.{inl, inr}
+use mathlib.Core.Bool.{true}
+use mathlib.Core.List.{List, [], _∷_, _++_}
+use Prim.Native.Nat.{ℕ, suc, _+_, _/_, _%_, _≤_, _<_}
+use native.Mathlib.Omega.{arith}
+use lib.Dec.{ltb, eqb}
+use lib.ListN.{length, getD, drop}
+use borrow.Author.Tests.{eqb-true, eq-eqb, ltb-true, ltb-false, le-leb, lt-leb}
+use Rattle.counting.specs.Tests.{same, below}
+use Rattle.counting.specs.Lists.{In}
+use Rattle.counting.specs.Pairs.{Pair}
+use Rattle.counting.proofs.Booleans.{and-both, and-two, and-three, by-test, true-false}
+use Rattle.counting.proofs.Range.{length-up}
+use Rattle.frames.specs.Frames.{digitOf, hexFrom, hexAt, digitByte, hexBytes, frame4, frameOf4}
+use Rattle.matching.specs.Stock.{Stock, greatest, leftOver, fitsLeftOver, markOf, marksFrom, marksOf}
+use Rattle.files.specs.StockFile.{markLines, sheetText, alike}
+
+-- DIGITS
+digit-value : (d : ℕ) → d < 16 → digitOf (digitByte d) ≡ d
+digit-value d h =
+    by-test (ltb d 10) (λ s. let k = ltb-true d 10 s in rw (s, le-leb (48 + d) 57 (omega arith)) (omega arith))
+    (λ s. let k = ltb-false d 10 s in rw (s, lt-leb (55 + d) 57 (omega arith)) (omega arith))
+
+digit-inj : (d e : ℕ) → d < 16 → e < 16 → digitByte d ≡ digitByte e → d ≡ e
+digit-inj d e h k q = sym (digit-value d h) ∙ ap digitOf q ∙ digit-value e k
+
+two-digits : (x y : ℕ) → x < 256 → y < 256 → digitByte (x / 16 % 16) ≡ digitByte (y / 16 % 16) → digitByte (x % 16) ≡ digitByte (y % 16) → x ≡ y
+two-digits x y h k p q =
+    let a = digit-inj (x / 16 % 16) (y / 16 % 16) (omega arith) (omega arith) p in
+    let b = digit-inj (x % 16) (y % 16) (omega arith) (omega arith) q in
+    omega arith
+
+-- LINES
+lines-inj : (u a b : ℕ) (ms ls : List ℕ) → ((x : ℕ) → In x ms → x < 256) → ((x : ℕ) → In x ls → x < 256) →
+    markLines u ms ++ frameOf4 79 a ≡ markLines u ls ++ frameOf4 79 b → ms ≡ ls
+unfolding markLines hexBytes
+lines-inj u a b [] [] h k e = refl
+lines-inj u a b [] (l ∷ ls) h k e = let z : _≡_ {A = ℕ} 70 51 = ap (λ (t : List ℕ). getD t 1 0) e in absurd (omega arith)
+lines-inj u a b (m ∷ ms) [] h k e = let z : _≡_ {A = ℕ} 51 70 = ap (λ (t : List ℕ). getD t 1 0) e in absurd (omega arith)
+lines-inj u a b (m ∷ ms) (l ∷ ls) h k e =
+    let one : m ≡ l =
+    two-digits m l (h m (inl refl)) (k l (inl refl)) (ap (λ (t : List ℕ). getD t 4 0) e) (ap (λ (t : List ℕ). getD t 5 0) e) in
+    let rest : ms ≡ ls = lines-inj (suc u) a b ms ls (λ x i. h x (inr i)) (λ x i. k x (inr i)) (ap (λ (t : List ℕ). drop 7 t) e) in
+    ap (λ (x : ℕ). x ∷ ms) one ∙ ap (λ (t : List ℕ). l ∷ t) rest
+
+text-inj : (a b c d : ℕ) (ms ls : List ℕ) → a < 256 → b < 256 → ((x : ℕ) → In x ms → x < 256) → ((x : ℕ) → In x ls → x < 256) →
+    frame4 65 a ++ markLines 0 ms ++ frameOf4 79 c ≡ frame4 65 b ++ markLines 0 ls ++ frameOf4 79 d → (a ≡ b) × (ms ≡ ls)
+unfolding hexBytes
+text-inj a b c d ms ls p q h k e = (
+  two-digits a b p q (ap (λ (t : List ℕ). getD t 2 0) e) (ap (λ (t : List ℕ). getD t 3 0) e),
+  lines-inj 0 c d ms ls h k (ap (λ (t : List ℕ). drop 5 t) e),
+)
+
+-- MARKS
+mark-low : (fs : List Pair) (u : ℕ) → markOf fs u ≤ 2
+mark-low fs u =
+    by-test (leftOver fs u) (λ s. rw s (omega arith)) (λ s. by-test (fitsLeftOver fs u) (λ t. rw (s, t) (omega arith)) (λ t. rw (s, t) (omega arith)))
+
+marks-low : (fs : List Pair) (us : List ℕ) (x : ℕ) → In x (marksFrom fs us) → x < 256
+unfolding marksFrom
+marks-low fs [] x m = absurd m
+marks-low fs (u ∷ us) x (inl e) = omega (arith, mark-low fs u)
+marks-low fs (u ∷ us) x (inr m) = marks-low fs us x m
+
+marks-length : (fs : List Pair) (us : List ℕ) → length (marksFrom fs us) ≡ length us
+unfolding marksFrom
+marks-length fs [] = refl
+marks-length fs (u ∷ us) = ap suc (marks-length fs us)
+
+same-is : (xs ys : List ℕ) → same xs ys ≡ true → xs ≡ ys
+unfolding same
+same-is [] [] e = refl
+same-is [] (y ∷ ys) e = true-false e refl
+same-is (x ∷ xs) [] e = true-false e refl
+same-is (x ∷ xs) (y ∷ ys) e =
+    let r = and-two (eqb x y) (same xs ys) e in ap (λ (z : ℕ). z ∷ xs) (eqb-true x y (r .0)) ∙ ap (λ (t : List ℕ). y ∷ t) (same-is xs ys (r .1))
+
+is-same : (xs : List ℕ) → same xs xs ≡ true
+unfolding same
+is-same [] = refl
+is-same (x ∷ xs) = and-both _ _ (eq-eqb x x refl) (is-same xs)
+
+-- SHEETS
+pub sheets-alike : (s t : Stock) → greatest (s .fits) < 256 → greatest (t .fits) < 256 →
+    sheetText (s .cameras) (s .fits) ≡ sheetText (t .cameras) (t .fits) → alike s t ≡ true
+sheets-alike s t h k e =
+    let r =
+    text-inj (greatest (s .fits)) (greatest (t .fits)) (s .cameras) (t .cameras) (marksOf (s .cameras) (s .fits)) (marksOf (t .cameras) (t .fits)) h k
+    (marks-low (s .fits) (below (s .cameras))) (marks-low (t .fits) (below (t .cameras))) e in
+    let n : s .cameras ≡ t .cameras =
+    sym (length-up 0 (s .cameras)) ∙ sym (marks-length (s .fits) (below (s .cameras))) ∙ ap (λ (z : List ℕ). length z) (r .1) ∙
+    marks-length (t .fits) (below (t .cameras)) ∙ length-up 0 (t .cameras) in
+    and-both _ _ (and-both _ _ (eq-eqb _ _ n) (eq-eqb _ _ (r .0)))
+    (subst (λ (z : List ℕ). same (marksOf (s .cameras) (s .fits)) z ≡ true) (r .1) (is-same (marksOf (s .cameras) (s .fits))))
+
+pub alike-sheets : (s t : Stock) → alike s t ≡ true → sheetText (s .cameras) (s .fits) ≡ sheetText (t .cameras) (t .fits)
+alike-sheets s t e =
+    let r = and-three (eqb (s .cameras) (t .cameras)) (eqb (greatest (s .fits)) (greatest (t .fits))) (same (marksOf (s .cameras) (s .fits)) (marksOf (t .cameras) (t .fits))) e in
+    ap (λ (z : ℕ). frame4 65 z ++ markLines 0 (marksOf (s .cameras) (s .fits)) ++ frameOf4 79 (s .cameras)) (eqb-true _ _ (r .1)) ∙
+    ap (λ (z : List ℕ). frame4 65 (greatest (t .fits)) ++ markLines 0 z ++ frameOf4 79 (s .cameras)) (same-is _ _ (r .2)) ∙
+    ap (λ (z : ℕ). frame4 65 (greatest (t .fits)) ++ markLines 0 (marksOf (t .cameras) (t .fits)) ++ frameOf4 79 z) (eqb-true _ _ (r .0))
+
+pub sheet-number : (n : ℕ) (fs : List Pair) → greatest fs < 256 → hexAt 2 2 (sheetText n fs) ≡ greatest fs
+unfolding hexBytes hexFrom
+sheet-number n fs h =
+    let a = digit-value (greatest fs / 16 % 16) (omega arith) in
+    let b = digit-value (greatest fs % 16) (omega arith) in
+    rw (a, b) (omega arith)

@@ -1,0 +1,60 @@
+-- `lanes::answers::put_arcs` meets its contract: i lines are written. Assumes nothing.
+use Prim.Native.Nat.{ℕ, _-_}
+use lib.ListN.{length}
+use Rattle.frames.specs.Frames.{frameOf4}
+use Rattle.frames.proofs.Writes.{frameOf4-length}
+use Rattle.files.specs.Answers.{Writing}
+use Rattle.files.proofs.AnswerLines.{writing-start, writing-step, writing-end}
+use Rattle.files.proofs.answers.put_arcs.Statement.{statement}
+use Rattle.files.proofs.answers.put_arcs.Tie as tie
+use borrow.Author.Needs.{needs}
+
+abbrev Inv-loop : tie.InvT-loop
+Inv-loop out₀ at arcs next₀ i₀ out next i = Writing (λ (i : ℕ) (x : ℕ). frameOf4 34 x) arcs out₀ at out next i
+
+abbrev μ-loop : tie.MeasureT-loop
+μ-loop out₀ at arcs next₀ i₀ out next i = length arcs - i
+
+loop-holds : tie.Need-loop-holds Inv-loop μ-loop
+loop-holds c = writing-start _ _ _ _
+
+mul-put-frame-of4 : tie.Need-mul-put-frame-of4 Inv-loop μ-loop
+mul-put-frame-of4 c = search needs
+
+shared-slice-read-put-frame-of4 : tie.Need-shared-slice-read-put-frame-of4 Inv-loop μ-loop
+shared-slice-read-put-frame-of4 c = search needs
+
+put-frame-of4-requires : tie.Need-put-frame-of4-requires Inv-loop μ-loop
+put-frame-of4-requires c κs = search needs
+
+add-i : tie.Need-add-i Inv-loop μ-loop
+add-i c = search needs
+
+loop-less : tie.Need-loop-less Inv-loop μ-loop
+loop-less c = search needs
+
+loop-again : tie.Need-loop-again Inv-loop μ-loop
+loop-again c =
+    writing-step (c .before .before .before .before .before .before .loop .inv) (c .before .before .before .before .before .loop-test .taken) (c .before .before .put-frame-of4 .ensures)
+
+same-length : tie.Need-same-length Inv-loop μ-loop
+same-length c = search needs
+
+returns : tie.Need-returns Inv-loop μ-loop
+returns c = writing-end (c .before .loop .inv) (λ i x. frameOf4-length 34 x) (c .loop-test .left)
+
+pub put-arcs-spec : {M : Type 1} → statement M
+put-arcs-spec =
+    tie.close
+    (tie.spec
+    Inv-loop
+    μ-loop
+    loop-holds
+    mul-put-frame-of4
+    shared-slice-read-put-frame-of4
+    put-frame-of4-requires
+    add-i
+    loop-less
+    loop-again
+    same-length
+    returns)

@@ -1,0 +1,61 @@
+-- `lanes::answers::put_numbered` meets its contract: i lines are written. Assumes nothing.
+use Prim.Native.Nat.{_-_}
+use native.Mathlib.Omega.{arith}
+use lib.ListN.{length}
+use Rattle.frames.specs.Frames.{frame6}
+use Rattle.frames.proofs.Writes.{frame6-length}
+use Rattle.files.specs.Answers.{Writing}
+use Rattle.files.proofs.AnswerLines.{writing-start, writing-step, writing-end}
+use Rattle.files.proofs.answers.put_numbered.Statement.{statement}
+use Rattle.files.proofs.answers.put_numbered.Tie as tie
+use borrow.Author.Needs.{needs}
+
+abbrev Inv-loop : tie.InvT-loop
+Inv-loop out₀ at kind values next₀ i₀ out next i = Writing (frame6 kind) values out₀ at out next i
+
+abbrev μ-loop : tie.MeasureT-loop
+μ-loop out₀ at kind values next₀ i₀ out next i = length values - i
+
+loop-holds : tie.Need-loop-holds Inv-loop μ-loop
+loop-holds c = writing-start _ _ _ _
+
+shared-slice-read-put-frame6 : tie.Need-shared-slice-read-put-frame6 Inv-loop μ-loop
+shared-slice-read-put-frame6 c = search needs
+
+cast-put-frame6 : tie.Need-cast-put-frame6 Inv-loop μ-loop
+cast-put-frame6 c = omega (arith, c .shared-slice-known2 .given (c .before .before .before .loop .i))
+
+put-frame6-requires : tie.Need-put-frame6-requires Inv-loop μ-loop
+put-frame6-requires c κs = search needs
+
+add-i : tie.Need-add-i Inv-loop μ-loop
+add-i c = search needs
+
+loop-less : tie.Need-loop-less Inv-loop μ-loop
+loop-less c = search needs
+
+loop-again : tie.Need-loop-again Inv-loop μ-loop
+loop-again c =
+    writing-step (c .before .before .before .before .before .before .loop .inv) (c .before .before .before .before .before .loop-test .taken) (c .before .before .put-frame6 .ensures)
+
+same-length : tie.Need-same-length Inv-loop μ-loop
+same-length c = search needs
+
+returns : tie.Need-returns Inv-loop μ-loop
+returns c = writing-end (c .before .loop .inv) (frame6-length _) (c .loop-test .left)
+
+pub put-numbered-spec : {M : Type 1} → statement M
+put-numbered-spec =
+    tie.close
+    (tie.spec
+    Inv-loop
+    μ-loop
+    loop-holds
+    shared-slice-read-put-frame6
+    cast-put-frame6
+    put-frame6-requires
+    add-i
+    loop-less
+    loop-again
+    same-length
+    returns)

@@ -1,0 +1,69 @@
+-- `lanes::answers::put_pairs` meets its contract: i lines are written. Assumes nothing.
+use Prim.Native.Nat.{ℕ, _-_}
+use native.Mathlib.Omega.{arith}
+use lib.ListN.{length, getD}
+use Rattle.frames.specs.Frames.{frame6}
+use Rattle.frames.proofs.Writes.{frame6-length}
+use Rattle.files.specs.Answers.{Writing}
+use Rattle.files.proofs.AnswerLines.{writing-start, writing-step, writing-end}
+use borrow.Author.Needs.{needs}
+use Rattle.files.proofs.answers.put_pairs.Statement.{statement}
+use Rattle.files.proofs.answers.put_pairs.Tie as tie
+
+abbrev Inv-loop : tie.InvT-loop
+Inv-loop out₀ at firsts seconds next₀ i₀ out next i = Writing (λ (i : ℕ) (x : ℕ). frame6 82 x (getD seconds i 0)) firsts out₀ at out next i
+
+abbrev μ-loop : tie.MeasureT-loop
+μ-loop out₀ at firsts seconds next₀ i₀ out next i = length firsts - i
+
+loop-holds : tie.Need-loop-holds Inv-loop μ-loop
+loop-holds c = writing-start _ _ _ _
+
+shared-slice-read-put-frame6 : tie.Need-shared-slice-read-put-frame6 Inv-loop μ-loop
+shared-slice-read-put-frame6 c = search needs
+
+cast-put-frame6 : tie.Need-cast-put-frame6 Inv-loop μ-loop
+cast-put-frame6 c = omega (arith, c .shared-slice-known3 .given (c .before .before .before .loop .i))
+
+shared-slice-read-put-frame6-2 : tie.Need-shared-slice-read-put-frame6-2 Inv-loop μ-loop
+shared-slice-read-put-frame6-2 c = search needs
+
+cast-put-frame6-2 : tie.Need-cast-put-frame6-2 Inv-loop μ-loop
+cast-put-frame6-2 c = omega (arith, c .shared-slice-known4 .given (c .before .before .before .before .loop .i))
+
+put-frame6-requires : tie.Need-put-frame6-requires Inv-loop μ-loop
+put-frame6-requires c κs = search needs
+
+add-i : tie.Need-add-i Inv-loop μ-loop
+add-i c = search needs
+
+loop-less : tie.Need-loop-less Inv-loop μ-loop
+loop-less c = search needs
+
+loop-again : tie.Need-loop-again Inv-loop μ-loop
+loop-again c =
+    writing-step (c .before .before .before .before .before .before .before .loop .inv) (c .before .before .before .before .before .before .loop-test .taken) (c .before .before .put-frame6 .ensures)
+
+same-length : tie.Need-same-length Inv-loop μ-loop
+same-length c = search needs
+
+returns : tie.Need-returns Inv-loop μ-loop
+returns c = writing-end (c .before .loop .inv) (λ i x. frame6-length 82 x _) (c .loop-test .left)
+
+pub put-pairs-spec : {M : Type 1} → statement M
+put-pairs-spec =
+    tie.close
+    (tie.spec
+    Inv-loop
+    μ-loop
+    loop-holds
+    shared-slice-read-put-frame6
+    cast-put-frame6
+    shared-slice-read-put-frame6-2
+    cast-put-frame6-2
+    put-frame6-requires
+    add-i
+    loop-less
+    loop-again
+    same-length
+    returns)

@@ -1,0 +1,66 @@
+-- `lanes::questions::are_fits` meets its contract: what is asked of the whole is what is asked from `i` on. Assumes nothing.
+use mathlib.Core.Path.{_≡_, refl, sym, _∙_}
+use Prim.Native.Nat.{_≤_, _-_}
+use native.Mathlib.Omega.{arith}
+use borrow.Author.Tests.{not-true, not-false}
+use lib.ListN.{drop}
+use Rattle.counting.specs.Tests.{all}
+use Rattle.matching.specs.Stock.{hasPair}
+use Rattle.counting.specs.Pairs.{pairsOf}
+use Rattle.files.proofs.PairScans.{all-end, all-step, all-stop}
+use Rattle.files.proofs.questions.are_fits.Statement.{statement}
+use Rattle.files.proofs.questions.are_fits.Tie as tie
+use borrow.Author.Needs.{needs}
+
+abbrev Inv-loop : tie.InvT-loop
+Inv-loop firsts seconds fits ones others lit i₀ i =
+    (i ≤ lit) × (all (hasPair (pairsOf fits firsts seconds)) (pairsOf lit ones others) ≡ all (hasPair (pairsOf fits firsts seconds)) (drop i (pairsOf lit ones others)))
+
+abbrev μ-loop : tie.MeasureT-loop
+μ-loop firsts seconds fits ones others lit i₀ i = lit - i
+
+loop-holds : tie.Need-loop-holds Inv-loop μ-loop
+loop-holds c = (omega arith, refl)
+
+shared-slice-read-has-pair : tie.Need-shared-slice-read-has-pair Inv-loop μ-loop
+shared-slice-read-has-pair c = search needs
+
+shared-slice-read-has-pair-2 : tie.Need-shared-slice-read-has-pair-2 Inv-loop μ-loop
+shared-slice-read-has-pair-2 c = search needs
+
+has-pair-requires : tie.Need-has-pair-requires Inv-loop μ-loop
+has-pair-requires c κs = search needs
+
+returns : tie.Need-returns Inv-loop μ-loop
+returns c =
+    sym (c .before .before .before .before .before .loop .inv .1 ∙ all-stop (c .before .before .before .before .before .before .before .before .before .before .pre .1) _ (c .before .before .before .before .loop-test .taken) (hasPair _) (sym (c .before .has-pair .ensures) ∙ not-true _ (c .if1 .taken)))
+
+add-i : tie.Need-add-i Inv-loop μ-loop
+add-i c = search needs
+
+loop-less : tie.Need-loop-less Inv-loop μ-loop
+loop-less c = search needs
+
+loop-again : tie.Need-loop-again Inv-loop μ-loop
+loop-again c =
+    (omega arith, c .before .before .before .before .before .loop .inv .1 ∙ all-step (c .before .before .before .before .before .before .before .before .before .before .pre .1) _ (c .before .before .before .before .loop-test .taken) (hasPair _) (sym (c .before .has-pair .ensures) ∙ not-false _ (c .if1 .left)))
+
+returns-2 : tie.Need-returns-2 Inv-loop μ-loop
+returns-2 c =
+    sym (c .before .loop .inv .1 ∙ all-end (c .before .before .before .before .before .before .pre .1) _ (hasPair _) (c .loop-test .left))
+
+pub are-fits-spec : {M : Type 1} → statement M
+are-fits-spec =
+    tie.close
+    (tie.spec
+    Inv-loop
+    μ-loop
+    loop-holds
+    shared-slice-read-has-pair
+    shared-slice-read-has-pair-2
+    has-pair-requires
+    returns
+    add-i
+    loop-less
+    loop-again
+    returns-2)

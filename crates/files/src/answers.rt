@@ -1,0 +1,96 @@
+// Answers written at the front of a lent buffer (document 01, "Frames"): a path, a barrier, a plan, a standing sheet.
+use frames::write::put_barrier_line;
+use frames::write::put_frame_of4;
+use frames::write::put_frame2;
+use frames::write::put_frame4;
+use frames::write::put_frame6;
+ghost use mathlib.Core.Path.{_≡_};
+ghost use Prim.Native.Nat.{ℕ, _+_, _*_, _≤_};
+ghost use mathlib.Core.List.{_++_};
+ghost use lib.ListN.{length, getD};
+ghost use Rattle.counting.specs.Pairs.{zipPairs};
+ghost use Rattle.frames.specs.Frames.{frame4, frame6, frameOf4};
+ghost use Rattle.frames.specs.Writes.{Written};
+ghost use Rattle.files.specs.Answers.{eachLine, WrittenFirst};
+ghost use Rattle.files.specs.StockFile.{markLines, planText};
+ghost use Rattle.files.specs.CertificateFile.{pathText, barrierText};
+
+// A frame of one kind for each value: its number, from 0, and the value.
+fn put_numbered(out: &mut [u8], at: usize, kind: usize, values: &[u8]) -> usize
+    requires { ⌜ at + 7 * length (now values) ≤ length (now out) ⌝ }
+    ensures { λ r. ⌜ Written (now (out .entry)) at (7 * length (now (values .entry))) (eachLine (frame6 kind) 0 (now (values .entry))) (now (out .exit)) r ⌝ }
+{
+    let mut next = at;
+    let mut i: usize = 0;
+    while i < values.len() {
+        next = put_frame6(out, next, kind, i, values[i] as usize);
+        i += 1;
+    }
+    next
+}
+
+// A frame for each arc number.
+fn put_arcs(out: &mut [u8], at: usize, arcs: &[usize]) -> usize
+    requires { ⌜ at + 7 * length (now arcs) ≤ length (now out) ⌝ }
+    ensures { λ r. ⌜ Written (now (out .entry)) at (7 * length (now (arcs .entry))) (eachLine (λ (i : ℕ) (x : ℕ). frameOf4 34 x) 0 (now (arcs .entry))) (now (out .exit)) r ⌝ }
+{
+    let mut next = at;
+    let mut i: usize = 0;
+    while i < arcs.len() {
+        next = put_frame_of4(out, next, 0x22, arcs[i]);
+        i += 1;
+    }
+    next
+}
+
+// A plan's frame for each pair.
+fn put_pairs(out: &mut [u8], at: usize, firsts: &[u8], seconds: &[u8]) -> usize
+    requires { ⌜ length (now seconds) ≡ length (now firsts) ⌝ }
+    requires { ⌜ at + 7 * length (now firsts) ≤ length (now out) ⌝ }
+    ensures { λ r. ⌜ Written (now (out .entry)) at (7 * length (now (firsts .entry))) (eachLine (λ (i : ℕ) (x : ℕ). frame6 82 x (getD (now (seconds .entry)) i 0)) 0 (now (firsts .entry))) (now (out .exit)) r ⌝ }
+{
+    let mut next = at;
+    let mut i: usize = 0;
+    while i < firsts.len() {
+        next = put_frame6(out, next, 0x52, firsts[i] as usize, seconds[i] as usize);
+        i += 1;
+    }
+    next
+}
+
+pub fn put_path(out: &mut [u8], arcs: &[usize]) -> usize
+    requires { ⌜ 10 + 7 * length (now arcs) ≤ length (now out) ⌝ }
+    ensures { λ r. ⌜ WrittenFirst (pathText (now (arcs .entry))) (now (out .entry)) (now (out .exit)) r ⌝ }
+{
+    let first = put_frame2(out, 0, 0x21);
+    let last = put_arcs(out, first, arcs);
+    put_frame_of4(out, last, 0x2F, arcs.len())
+}
+
+pub fn put_barrier(out: &mut [u8], classes: &[u8]) -> usize
+    requires { ⌜ 10 + 7 * length (now classes) ≤ length (now out) ⌝ }
+    ensures { λ r. ⌜ WrittenFirst (barrierText (now (classes .entry))) (now (out .entry)) (now (out .exit)) r ⌝ }
+{
+    let first = put_barrier_line(out, 0);
+    let last = put_numbered(out, first, 0x32, classes);
+    put_frame_of4(out, last, 0x3F, classes.len())
+}
+
+pub fn put_plan(out: &mut [u8], firsts: &[u8], seconds: &[u8]) -> usize
+    requires { ⌜ length (now seconds) ≡ length (now firsts) ⌝ }
+    requires { ⌜ 12 + 7 * length (now firsts) ≤ length (now out) ⌝ }
+    ensures { λ r. ⌜ WrittenFirst (planText (zipPairs (now (firsts .entry)) (now (seconds .entry)))) (now (out .entry)) (now (out .exit)) r ⌝ }
+{
+    let first = put_frame4(out, 0, 0x51, firsts.len());
+    let last = put_pairs(out, first, firsts, seconds);
+    put_frame_of4(out, last, 0x5F, firsts.len())
+}
+
+pub fn put_sheet(out: &mut [u8], pairs: usize, marks: &[u8]) -> usize
+    requires { ⌜ 12 + 7 * length (now marks) ≤ length (now out) ⌝ }
+    ensures { λ r. ⌜ WrittenFirst (frame4 65 pairs ++ markLines 0 (now (marks .entry)) ++ frameOf4 79 (length (now (marks .entry)))) (now (out .entry)) (now (out .exit)) r ⌝ }
+{
+    let first = put_frame4(out, 0, 0x41, pairs);
+    let last = put_numbered(out, first, 0x43, marks);
+    put_frame_of4(out, last, 0x4F, marks.len())
+}

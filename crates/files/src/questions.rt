@@ -1,0 +1,194 @@
+// Questions 9 to 14, put to the numbers of a file that stand in lent slices (document 01, "Questions put to a call"). Each function answers one
+// question, by document 03's test.
+ghost use mathlib.Core.Path.{_≡_};
+ghost use Prim.Native.Nat.{ℕ, _≤_};
+ghost use lib.Dec.{ltb};
+ghost use lib.ListN.{length, take};
+ghost use Rattle.counting.specs.Tests.{all};
+ghost use Rattle.counting.specs.Pairs.{pair, pairsOf};
+ghost use Rattle.skew.specs.Graph.{mate, matesFit};
+ghost use Rattle.matching.specs.Stock.{samePair, hasPair, noneShared, pairBefore, pairsRise};
+ghost use Rattle.files.specs.Tables.{Holds};
+ghost use Rattle.matching.specs.Promise.{pairNamed};
+ghost use Rattle.files.specs.CertificateFile.{namesInOrder};
+
+// 9, of arcs and of cameras: is every number of the pairs below the bound?
+pub fn are_named(firsts: &[u8], seconds: &[u8], count: usize, bound: usize) -> bool
+    requires { ⌜ Holds count (now firsts) (now seconds) ⌝ }
+    ensures { λ r. ⌜ r ≡ all (pairNamed bound) (pairsOf count (now (firsts .entry)) (now (seconds .entry))) ⌝ }
+{
+    let mut i: usize = 0;
+    while i < count {
+        if bound <= firsts[i] as usize {
+            return false;
+        }
+        if bound <= seconds[i] as usize {
+            return false;
+        }
+        i += 1;
+    }
+    true
+}
+
+fn mate_of(v: u8) -> u8
+    ensures { λ r. ⌜ r ≡ mate v ⌝ }
+{
+    if v % 2 == 0 { v + 1 } else { v - 1 }
+}
+
+// 10: is each odd-numbered arc the mate of the one before?
+pub fn are_mated(tails: &[u8], heads: &[u8], count: usize) -> bool
+    requires { ⌜ Holds count (now tails) (now heads) ⌝ }
+    ensures { λ r. ⌜ r ≡ matesFit (pairsOf count (now (tails .entry)) (now (heads .entry))) ⌝ }
+{
+    let mut i: usize = 0;
+    while i < count {
+        if i + 1 == count {
+            return true;
+        }
+        if tails[i + 1] != mate_of(heads[i]) {
+            return false;
+        }
+        if heads[i + 1] != mate_of(tails[i]) {
+            return false;
+        }
+        i += 2;
+    }
+    true
+}
+
+// Does the pair (u, v) come before (x, y): by the first camera, then by the second?
+fn comes_before(u: u8, v: u8, x: u8, y: u8) -> bool
+    ensures { λ r. ⌜ r ≡ pairBefore (pair u v) (pair x y) ⌝ }
+{
+    if u < x {
+        return true;
+    }
+    if u != x {
+        return false;
+    }
+    v < y
+}
+
+// 11 and 12: has each pair the smaller camera first, and do the pairs rise strictly?
+pub fn pairs_rise(firsts: &[u8], seconds: &[u8], count: usize) -> bool
+    requires { ⌜ Holds count (now firsts) (now seconds) ⌝ }
+    ensures { λ r. ⌜ r ≡ pairsRise (pairsOf count (now (firsts .entry)) (now (seconds .entry))) ⌝ }
+{
+    let mut i: usize = 0;
+    while i < count {
+        if seconds[i] <= firsts[i] {
+            return false;
+        }
+        if i + 1 == count {
+            return true;
+        }
+        if !comes_before(firsts[i], seconds[i], firsts[i + 1], seconds[i + 1]) {
+            return false;
+        }
+        i += 1;
+    }
+    true
+}
+
+fn is_pair(u: u8, v: u8, x: u8, y: u8) -> bool
+    ensures { λ r. ⌜ r ≡ samePair (pair u v) (pair x y) ⌝ }
+{
+    if u != x {
+        return false;
+    }
+    v == y
+}
+
+// Is (u, v) one of the pairs? It looks at each in turn up to the one that is equal: at most all of them.
+pub fn has_pair(firsts: &[u8], seconds: &[u8], count: usize, u: u8, v: u8) -> bool
+    requires { ⌜ Holds count (now firsts) (now seconds) ⌝ }
+    ensures { λ r. ⌜ r ≡ hasPair (pairsOf count (now (firsts .entry)) (now (seconds .entry))) (pair u v) ⌝ }
+{
+    let mut i: usize = 0;
+    while i < count {
+        if is_pair(u, v, firsts[i], seconds[i]) {
+            return true;
+        }
+        i += 1;
+    }
+    false
+}
+
+// 13: is each lit pair a fit?
+pub fn are_fits(
+    firsts: &[u8],
+    seconds: &[u8],
+    fits: usize,
+    ones: &[u8],
+    others: &[u8],
+    lit: usize,
+) -> bool
+    requires { ⌜ Holds fits (now firsts) (now seconds) × Holds lit (now ones) (now others) ⌝ }
+    ensures { λ r. ⌜ r ≡ all (hasPair (pairsOf fits (now (firsts .entry)) (now (seconds .entry)))) (pairsOf lit (now (ones .entry)) (now (others .entry))) ⌝ }
+{
+    let mut i: usize = 0;
+    while i < lit {
+        if !has_pair(firsts, seconds, fits, ones[i], others[i]) {
+            return false;
+        }
+        i += 1;
+    }
+    true
+}
+
+// 14: is no camera in two pairs? A table has a mark for each camera of the pairs passed.
+pub fn none_shared(firsts: &[u8], seconds: &[u8], count: usize) -> bool
+    requires { ⌜ Holds count (now firsts) (now seconds) ⌝ }
+    ensures { λ r. ⌜ r ≡ noneShared (pairsOf count (now (firsts .entry)) (now (seconds .entry))) ⌝ }
+{
+    let mut marks = [0u8; 256];
+    let mut i: usize = 0;
+    while i < count {
+        let u = firsts[i] as usize;
+        let v = seconds[i] as usize;
+        if marks[u] != 0 {
+            return false;
+        }
+        if marks[v] != 0 {
+            return false;
+        }
+        marks[u] = 1;
+        marks[v] = 1;
+        i += 1;
+    }
+    true
+}
+
+// 9, of a path: is every arc number below the number of arcs?
+pub fn are_below(numbers: &[u16], count: usize, bound: usize) -> bool
+    requires { ⌜ count ≤ length (now numbers) ⌝ }
+    ensures { λ r. ⌜ r ≡ all (λ (i : ℕ). ltb i bound) (take count (now (numbers .entry))) ⌝ }
+{
+    let mut i: usize = 0;
+    while i < count {
+        if bound <= numbers[i] as usize {
+            return false;
+        }
+        i += 1;
+    }
+    true
+}
+
+// 9, of a barrier: does line i name node i, with a class at most 130?
+pub fn in_order(nodes: &[u8], classes: &[u8], count: usize) -> bool
+    requires { ⌜ Holds count (now nodes) (now classes) ⌝ }
+    ensures { λ r. ⌜ r ≡ namesInOrder 0 (pairsOf count (now (nodes .entry)) (now (classes .entry))) ⌝ }
+{
+    let mut i: usize = 0;
+    while i < count {
+        if nodes[i] as usize != i {
+            return false;
+        }
+        if 130 < classes[i] {
+            return false;
+        }
+        i += 1;
+    }
+    true
+}

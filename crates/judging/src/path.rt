@@ -1,0 +1,42 @@
+// Is a run of arcs a regular path from the source to its mate? (document 01, "The graph"; document 03, isWanted)
+ghost use mathlib.Core.Path.{_≡_};
+ghost use Prim.Native.Nat.{ℕ, _<_};
+ghost use lib.ListN.{length, getD};
+ghost use Rattle.skew.specs.Graph.{isWanted};
+ghost use Rattle.arcs.specs.Table.{graphOf, ArcTable};
+use arcs::node::mate_of;
+use arcs::node::wide;
+
+// Each arc starts where the one before ended, at a node not seen before, and its mate was not used. Mates are told by their numbers.
+pub fn is_wanted(pairs: usize, source: usize, tails: &[u8], heads: &[u8], path: &[u16]) -> bool
+    requires { ⌜ ArcTable pairs source (now tails) (now heads) ⌝ }
+    requires { ⌜ ((k : ℕ) → k < length (now path) → getD (now path) k 0 < length (now tails)) ⌝ }
+    ensures { λ r. ⌜ r ≡ isWanted (graphOf pairs source (now (tails .entry)) (now (heads .entry))) (now (path .entry)) ⌝ }
+{
+    let mut seen = [0u8; 256];
+    let mut used = [0u8; 8192];
+    seen[source] = 1;
+    let mut at = source;
+    let mut k: usize = 0;
+    while k < path.len() {
+        let i = path[k] as usize;
+        if wide(tails[i]) != at {
+            return false; // not joined
+        }
+        at = wide(heads[i]);
+        if seen[at] == 1 {
+            return false; // a node twice
+        }
+        let m = mate_of(i);
+        if used[m] == 1 {
+            return false; // an arc with its mate
+        }
+        seen[at] = 1;
+        used[i] = 1;
+        k += 1;
+    }
+    if at != mate_of(source) {
+        return false; // another end
+    }
+    true
+}
