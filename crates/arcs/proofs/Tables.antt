@@ -1,4 +1,4 @@
--- The arc table as a list of arcs. Assumes nothing.
+-- The arc table as a list of arcs.
 --   arcs-length                   as many arcs as tails
 --   arcs-at                       the arc of a number, by its tail and head
 --   arcs-zip                      where there are as many heads as tails: the arcs pair by pair

@@ -1,4 +1,4 @@
--- What the questions settle of a file that none of them refuses. Assumes nothing.
+-- What the questions settle of a file that none of them refuses.
 --   accepted-graph                the graph is well formed
 --   graph-few                     it has at most 128 mate pairs and 8,192 arcs
 --   accepted-stock                the stock is well formed

@@ -1,4 +1,4 @@
--- Lines of an answer, seven bytes for each value, written one behind the other. Assumes nothing.
+-- Lines of an answer, seven bytes for each value, written one behind the other.
 --   writing-start, writing-step, writing-end    none is written; one more is; all are
 --   class-lines, mark-lines, path-lines         document 03's lines are such lines
 --   plan-text                                   and so are a plan's, by first cameras, the second ones looked up

@@ -1,4 +1,4 @@
--- A graph that was read, as the arc table that the search takes. Assumes nothing.
+-- A graph that was read, as the arc table that the search takes.
 --   held-graph     the graph of the table is the file's
 --   held-table     and the table is within what the questions settle
 use mathlib.Core.Path.{_≡_, ap, subst, sym, _∙_}

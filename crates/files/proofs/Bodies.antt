@@ -1,4 +1,4 @@
--- Body lines counted. Assumes nothing.
+-- Body lines counted.
 --   pairs-every     frames of one kind are as many pairs
 --   only-count      so in a file whose body lines are of one kind
 use mathlib.Core.Path.{_≡_, refl, ap, sym, _∙_}

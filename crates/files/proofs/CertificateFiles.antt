@@ -1,4 +1,4 @@
--- The questions of a certificate, one after the other. Assumes nothing.
+-- The questions of a certificate, one after the other.
 --   path-shape, path-many, path-arc, path-none          a path: refused by 2 to 7, by 8, by 9, or by none
 --   path-room                                           its arc numbers can be stored
 --   barrier-shape, barrier-size, barrier-order, barrier-none, barrier-room, barrier-holds    the same of a barrier

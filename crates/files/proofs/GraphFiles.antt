@@ -1,4 +1,4 @@
--- The questions of a graph file, one after the other. Assumes nothing.
+-- The questions of a graph file, one after the other.
 --   header-none, header-many, header-source, header-yes    question 5, by the two numbers of the header
 --   graph-shape                                            questions 2 to 7 refuse
 --   graph-odd, graph-many                                  question 8 refuses

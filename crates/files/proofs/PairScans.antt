@@ -1,5 +1,4 @@
 -- Questions put to pairs that stand in two slices, one pair after the other: what is asked of all pairs is what is asked from a place on.
--- Assumes nothing.
 --   named-, mates-, rise-, has-, order-    by question (9, 10, 11 and 12, 13, 9 of a barrier)
 --   -step         the pair at the place passes, so that what is asked goes on behind it
 --   -first, -second, -turn, -hit    it does not, or it settles the question

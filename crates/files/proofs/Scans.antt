@@ -1,4 +1,4 @@
--- A list asked from its front, one element at a time: what is asked of all is what is asked from a place on. Assumes nothing.
+-- A list asked from its front, one element at a time: what is asked of all is what is asked from a place on.
 --   drop-next                            from a place on: the element there, and what follows
 --   below-step, below-stop, below-end    the first n numbers are below a bound: the one at a place is, or is not, or there is none
 use mathlib.Core.Path.{_≡_, _∙_}

@@ -1,4 +1,4 @@
--- A standing sheet's bytes tell its number of cameras, its greatest number of pairs and every mark. Assumes nothing.
+-- A standing sheet's bytes tell its number of cameras, its greatest number of pairs and every mark.
 --   sheets-alike, alike-sheets    two sheets are the same bytes exactly when cameras, greatest number and marks are
 --   sheet-number                  the number in its header is the greatest number of pairs
 use mathlib.Core.Path.{_≡_, refl, sym, ap, subst, _∙_}

@@ -1,4 +1,4 @@
--- The questions of a stock file, one after the other. Assumes nothing.
+-- The questions of a stock file, one after the other.
 --   header-number, header-long    question 5, by the number of the header
 --   pairs-nine, pairs-ten         questions 9, of fits and of lit pairs
 --   stock-shape, stock-many       questions 2 to 7 refuse, question 8 refuses

@@ -1,4 +1,4 @@
--- Pairs that stand in two slices. Assumes nothing.
+-- Pairs that stand in two slices.
 --   pairs-length    as many as counted
 --   pairs-at        the pair at a place: what both slices have there
 --   pairs-next      from a place on: that pair, and what follows

@@ -1,5 +1,4 @@
 -- Certificates: paths and barriers (document 01, "The barrier", "Frames" and "Questions put to a call"; the definitions are document 03's).
--- Assumes nothing: these are definitions.
 --   isPathFile                        the header is a path's
 --   pathArcs, pathFault               a path's arc numbers, and its questions 2 to 9
 --   barrierClasses, barrierFault      a barrier's classes, and its questions 2 to 9

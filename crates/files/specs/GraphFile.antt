@@ -1,4 +1,4 @@
--- Graph files (document 01, "Frames" and "Questions put to a call"; the definitions are document 03's). Assumes nothing: these are definitions.
+-- Graph files (document 01, "Frames" and "Questions put to a call"; the definitions are document 03's).
 --   headerFits    question 5: mate pairs 1 to 128, the source a node
 --   graphIn       the graph that a file's frames say
 --   arcNamed      both ends of an arc exist

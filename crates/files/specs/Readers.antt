@@ -1,7 +1,6 @@
 -- What reading a file answers: the number of the first question answered no, or 0 and what the file holds, in slices that the caller lends.
 --   GraphHeld, GraphRead            a graph: its mate pairs, its source, and its arcs by tails and heads
 --   StockHeld, StockRead            a stock: its cameras, its fits and its lit pairs
---   PathRead, BarrierRead           a certificate: arc numbers, or classes
 use mathlib.Core.Path.{_≡_}
 use mathlib.Core.List.{List}
 use Prim.Native.Nat.{ℕ}

@@ -1,5 +1,5 @@
 -- Stock files, and plans and standing sheets as they are written (document 01, "Stocks", "Frames" and "Questions put to a call"; the definitions
--- are document 03's). Assumes nothing: these are definitions.
+-- are document 03's).
 --   headerFits               question 5: at most 127 cameras
 --   stockIn                  the stock that a file's frames say
 --   pairsFault               questions 9 and 11 to 14, of the pairs alone

@@ -1,4 +1,4 @@
--- Tables of classes judged class by class, and the arcs that enter a class counted. Assumes nothing.
+-- Tables of classes judged class by class, and the arcs that enter a class counted.
 --   fit-same, fit-from-a, fit-into-a, fit-else    the pairs of classes between which an arc may go
 --   arcs-next, arcs-fail, arcs-end                the arcs judged one by one
 --   largest-none, largest-more, largest-same      the classes from k on, from the last one down

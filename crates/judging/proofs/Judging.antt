@@ -1,4 +1,4 @@
--- A test of each element of a list, judged by a loop, element by element. Assumes nothing.
+-- A test of each element of a list, judged by a loop, element by element.
 --   all-same                             two tests that agree on the elements
 --   Judged f xs i                        the elements before index i passed
 --   judged-next, -fails, -end            one element more; one that fails; none left

@@ -1,4 +1,4 @@
--- A run of arcs judged arc by arc. Assumes nothing.
+-- A run of arcs judged arc by arc.
 --   wanted-from                    isWanted, arc by arc from the source
 --   marks-none, marks-more         tables of marks: empty, and with one number more
 --   walking-start, -next           the loop that judges

@@ -1,4 +1,4 @@
--- What the graph call answers: what is written is what it owes. Assumes nothing.
+-- What the graph call answers: what is written is what it owes.
 --   path-found, barrier-found           what the search found, and that a path is short
 --   path-answered, barrier-answered     what is written of it
 --   room-refused, file-refused          question 1 refuses, or one of the file's

@@ -1,6 +1,5 @@
 -- A call that takes its tally lent, as a thin function over the call by value: a walk of its MIR, by hand, once for every callee. The tally is copied
 -- out of its borrow and passed by value, the slices are passed on, and the answer's tally is stored back.
--- Assumes nothing.
 --   lent callee       the thin function's MIR
 --   Relation, By      what a call by value owes, of file, buffer, tally, answer, buffer after and tally after; and that as its contract
 --   Saying, Clause    what the thin function says of them, and that as its contract

@@ -1,4 +1,4 @@
--- G1 to G5 and S1 to S7 (document 01, "Known graphs and stocks"): the definitions give these answers, by computing. Assumes nothing.
+-- G1 to G5 and S1 to S7 (document 01, "Known graphs and stocks"): the definitions give these answers, by computing.
 --   marked    the table
 use mathlib.Core.Path.{refl}
 use Rattle.counting.specs.Tests.{all, any, among, noneTwice, upFrom, keep}

@@ -1,4 +1,4 @@
--- The promises, kept for every file. Assumes nothing.
+-- The promises, kept for every file.
 --   reaches-by-paths, path-or-barrier              demand 2
 --   greatest-is, marks-are, sheets-tell            demand 3
 --   sheets-by-fits, sheet-number-is                and what it says of lit pairs, and of the number in a sheet's bytes

@@ -1,4 +1,4 @@
--- What the stock calls answer: the questions of a file settle what a search takes, and what is written is what they owe. Assumes nothing.
+-- What the stock calls answer: the questions of a file settle what a search takes, and what is written is what they owe.
 --   pairs-few, listed-few             a row has no more pairs than cameras, and at most 127
 --   plan-written, sheet-written       what is written, and its size
 --   cameras-few, stock-table          an accepted file as it was read: what a search takes

@@ -1,4 +1,4 @@
--- The check's answer. Assumes nothing.
+-- The check's answer.
 --   verdict-refused, verdict-judged                                 a certificate refused, and one past the questions
 --   path-refused, path-judged, barrier-refused, barrier-judged      so of a path that was read, and of a barrier
 --   no-header, no-header-shape                                      a file without a header gets the same number as a path and as a barrier

@@ -1,5 +1,5 @@
 -- What each call answers and leaves: its result, the buffer and the tally (document 01, "Questions put to a call"; the definitions are document
--- 03's, with the verdict's lines). Assumes nothing: these are definitions.
+-- 03's, with the verdict's lines).
 --   roomFault, answerFault, sheetFault, checkFault    the first question answered no, by call
 --   told                                              a call's result: its refusal, or 0 and the answer's size
 --   raised, counted, tallied                          one more, where a count is not at its largest; of the counts named; by outcome

@@ -1,5 +1,5 @@
 -- What is promised of every graph file and of every two stock files. Each promise is a type; a term of the type is the theorem's proof (the
--- definitions are document 03's, with SheetsByFits and SheetNumber). Assumes nothing: these are definitions.
+-- definitions are document 03's, with SheetsByFits and SheetNumber).
 --   ReachesByPaths    demand 2: a node is reachable exactly if a regular path from the source ends there
 --   PathOrBarrier     demand 2: a path and a barrier exclude each other, and without a path the canonical one is a barrier
 --   GreatestIs        demand 3: the greatest number of pairs, by all pairings of the file's fits; and there is a plan

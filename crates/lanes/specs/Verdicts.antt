@@ -1,4 +1,4 @@
--- The check's answer, part by part (document 01, "Questions put to a call"). Assumes nothing: these are definitions.
+-- The check's answer, part by part (document 01, "Questions put to a call").
 --   verdictOf n holds                  refused with n; where n is 0, whether the certificate holds
 --   certNumber n                       a certificate's refusal as the check gives it: 40 added
 --   pathVerdict, barrierVerdict        the answer to a path, and to a barrier

@@ -1,4 +1,4 @@
--- A refused check is told from yes and no by its number alone: the first question answered no is never question 1. Assumes nothing.
+-- A refused check is told from yes and no by its number alone: the first question answered no is never question 1.
 --   NoneOrHigh n             n is 0, or 2 or more
 --   unless-high, or-high     a question with such a number, and two one after the other
 --   shape-high, graph-high   the questions of a file's shape, and of a graph

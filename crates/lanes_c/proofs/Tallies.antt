@@ -1,4 +1,4 @@
--- The four counts that a call leaves. Assumes nothing.
+-- The four counts that a call leaves.
 --   counts-left    counts made of a tally, which a call made of the tally that the counts were
 use mathlib.Core.Path.{_≡_, ap, _∙_}
 use mathlib.Core.List.{List}

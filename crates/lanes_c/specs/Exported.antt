@@ -1,4 +1,4 @@
--- What an exported call returns and leaves: document 01's results as numbers, and its tally as four counts. Assumes nothing: these are definitions.
+-- What an exported call returns and leaves: document 01's results as numbers, and its tally as four counts.
 --   tallyOf, countsOf                                 the tally that four counts are, and the counts of a tally: paths, barriers, stocks, refusals
 --   packed told                                       a call's result: its number in the lowest byte, its size above
 --   said verdict                                      the check's: 1 for yes, 0 for no, otherwise the refusal, which is never below 2

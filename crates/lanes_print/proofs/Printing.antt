@@ -1,4 +1,4 @@
--- From what a call owes to what is printed. Assumes nothing.
+-- From what a call owes to what is printed.
 --   text-prints, line-prints                   a text at the front of a buffer; a line written there
 --   answer-shows, refusal-shows                what a call told, as it is printed: its answer as it stands, the line of its refusal
 --   shown                                      it is a right answer, or the line of the refusal

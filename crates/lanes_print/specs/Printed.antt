@@ -1,5 +1,5 @@
 -- What each program prints for a file (document 01, "Questions put to a call": Programs): the answer's lines, or 7E and the refusal. A program lends
--- room enough, so that question 1 is answered yes. Assumes nothing: these are definitions.
+-- room enough, so that question 1 is answered yes.
 --   GraphText file text                   the text is what is printed for a graph: which path is left free
 --   PlanText file text                    the same of a stock's plan: which largest one is left free
 --   sheetPrinted file                     a stock's standing sheet, or the refusal

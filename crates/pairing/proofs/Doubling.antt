@@ -1,4 +1,4 @@
--- The doubled table, written arc by arc: what is written and what is left are the whole. Assumes nothing.
+-- The doubled table, written arc by arc: what is written and what is left are the whole.
 --   cameras-left-first, cameras-left-none         the next camera's arcs; no camera left
 --   fits-left-first, fits-left-none               the next fit's arcs; no fit left
 --   pair-at, fit-first, fit-second                a pair of two tables, and its cameras

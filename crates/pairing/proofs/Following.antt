@@ -1,4 +1,4 @@
--- A path followed by rotations of a row, arc by arc. Assumes nothing.
+-- A path followed by rotations of a row, arc by arc.
 --   following-start, following-turn, following-end     the loop's state at its start, at a turn, at its end
 use mathlib.Core.Path.{_≡_, refl, sym, ap, subst, _∙_}
 use mathlib.Core.List.{List, [], _∷_}

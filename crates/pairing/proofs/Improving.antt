@@ -1,4 +1,4 @@
--- From the lit pairs to a plan by one search after the other. Assumes nothing.
+-- From the lit pairs to a plan by one search after the other.
 --   stock-fits, stock-lit, stock-matching     what a stock's tables give
 --   improving-start                           before the first search
 --   stepped-keeps, stepped-less               after any; and the loop ends

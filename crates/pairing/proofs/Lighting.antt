@@ -1,4 +1,4 @@
--- A row read from pairs, and its pairs written camera by camera. Assumes nothing.
+-- A row read from pairs, and its pairs written camera by camera.
 --   lit-none, lit-one                          no pair lit; one pair more, from the last to the first
 --   pairs-left-first, pairs-left-none, pairs-left-all      the next camera's pair; no camera left; all
 --   count-taken, count-left                    how many pairs are left, by the next camera

@@ -1,4 +1,4 @@
--- The doubled table of a row as a search sees it, and what each of the search's answers gives. Assumes nothing.
+-- The doubled table of a row as a search sees it, and what each of the search's answers gives.
 --   front-length                    the front of a table of zeros, lent for the nodes of a doubled table
 --   path-answer, barrier-answer     what an answer says, by its cases
 --   as-long, arc-table              the tables lent are an arc table

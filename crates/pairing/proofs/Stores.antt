@@ -1,4 +1,4 @@
--- A table filled from its front, one store a turn. Assumes nothing.
+-- A table filled from its front, one store a turn.
 --   filled-more      one number more is as a function says
 --   filled-marks     all of them are: the marks
 use mathlib.Core.Path.{_≡_, sym, ap, _∙_}

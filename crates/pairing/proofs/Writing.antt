@@ -1,4 +1,4 @@
--- Pairs of numbers written into two tables, one after the other. Assumes nothing.
+-- Pairs of numbers written into two tables, one after the other.
 --   put-one, put-two                              one more; an arc and its mate
 --   wrote-none, wrote-as                          nothing more; the pairs under another name
 --   writing-start, writing-more, writing-done     the state of a loop at its start, after a turn, at its end

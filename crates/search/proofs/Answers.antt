@@ -1,4 +1,4 @@
--- From the search's end to its answer. Assumes nothing.
+-- From the search's end to its answer.
 --   wanted-short             a wanted path has fewer arcs than the graph has nodes
 --   source-small             the source's mate can be told
 --   restorable, answers-path      the source's mate is reached: the path is restored

@@ -1,4 +1,4 @@
--- The ascent from the two ends of an arc to the base that absorbs the others, on the tables. Assumes nothing.
+-- The ascent from the two ends of an arc to the base that absorbs the others, on the tables.
 --   Ascending ..              the loop's state: two ends with bases p and q, the absorbed bases marked, their mates labelled
 --   ascending-start           before the first absorption
 --   absorbs-q, absorbs-p      the base of either end can be absorbed

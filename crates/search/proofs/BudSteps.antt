@@ -1,4 +1,4 @@
--- The bud step on the tables. Assumes nothing.
+-- The bud step on the tables.
 --   maps-asked          what the loops over births and bases ask
 --   mate-asked          the mate of the absorbing base has a birth number
 --   bud-stepped         births, bases and marks mapped after an ascent: a bud step

@@ -1,4 +1,4 @@
--- The class table, node by node. Assumes nothing.
+-- The class table, node by node.
 --   no-path, table-reached          the end of a search without a path: none exists, and the reached nodes are the reachable ones
 --   class-reads, root-in            where `class_at` reads and writes
 --   class-M, class-A, class-A′      a node outside X

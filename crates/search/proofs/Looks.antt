@@ -1,4 +1,4 @@
--- A look at one arc of a reached node: whether it is settled, and what the tables hold after the step that it asks for. Assumes nothing.
+-- A look at one arc of a reached node: whether it is settled, and what the tables hold after the step that it asks for.
 --   settled-reads                       where `is_settled` reads
 --   inside-bud, enters-bud, leaves-bud  three ways to be settled
 --   loop-unsettled, link-unsettled      two ways not to be

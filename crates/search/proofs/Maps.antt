@@ -1,4 +1,4 @@
--- A loop that maps a list in place, element by element. Assumes nothing.
+-- A loop that maps a list in place, element by element.
 --   map-start, map-next, map-done    before the loop, one element more, after the last
 --   map-here                         the element at hand is as it was
 use mathlib.Core.Path.{_≡_, refl, ap, _∙_}

@@ -1,4 +1,4 @@
--- The queue of reached nodes. Assumes nothing.
+-- The queue of reached nodes.
 --   queued-same                  the same set, by another test
 --   queue-room                   a node that is not in the queue has a place in it
 --   enqueued-none, -add, -same   a queue grown by no node, by one node more, with the same set

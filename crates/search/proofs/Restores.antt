@@ -1,4 +1,4 @@
--- Restoration follows the path that the labels give: what its places ask, and what it has written. Assumes nothing.
+-- Restoration follows the path that the labels give: what its places ask, and what it has written.
 --   Split, split              a path's last label: the path to its arc's tail, the arc, and the path within the bud
 --   split-first, -second      the two inner calls
 --   restored-stop             nothing is written at the start of the path

@@ -1,4 +1,4 @@
--- A part of a path reversed in place, each arc's mate for the arc. Assumes nothing.
+-- A part of a path reversed in place, each arc's mate for the arc.
 --   reversed-sets                 a run that was stored and then reversed
 --   Reversing ..                  the loop's state: reversed outside the places from a to b
 --   reversing-start, -next, -end  the loop

@@ -1,4 +1,4 @@
--- The ascent from a node's bud to the root of its tree of buds, on the tables. Assumes nothing.
+-- The ascent from a node's bud to the root of its tree of buds, on the tables.
 --   RootAscent v b              the loop's state: b is a base on the way from v's bud to the root
 --   root-ascent-start, -next    from the base of v's bud up, bud by bud
 --   root-ascent-less            the birth number falls

@@ -1,4 +1,4 @@
--- The search node by node: a node's arcs scanned, the start and the end. Assumes nothing.
+-- The search node by node: a node's arcs scanned, the start and the end.
 --   others-more               one arc more that does not leave the node
 --   scan-begins               the next node in the queue is scanned
 --   leaves-node, scan-looks   the arc at hand leaves it, and was looked at

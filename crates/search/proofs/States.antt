@@ -1,4 +1,4 @@
--- The tables as a state: what is read off them. Assumes nothing.
+-- The tables as a state: what is read off them.
 --   getD-any                                within a list the default is not read
 --   is-reached, not-reached                 birth numbers and reached nodes
 --   reached-is, unreached-is                the same, the other way round

@@ -1,4 +1,4 @@
--- The tree step on the tables. Assumes nothing.
+-- The tree step on the tables.
 --   tree-stepped      the head's birth, label and base stored: a tree step
 use mathlib.Core.Path.{_≡_, sym, subst, _∙_}
 use mathlib.Core.Logic.{_≢_, ⊎-elim}

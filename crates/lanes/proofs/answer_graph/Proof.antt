@@ -1,4 +1,4 @@
--- `lanes::answer_graph` meets its contract: it is the thin function over `answer_graph_by`, and what that owes is what it says. Assumes nothing.
+-- `lanes::answer_graph` meets its contract: it is the thin function over `answer_graph_by`, and what that owes is what it says.
 use mathlib.Core.Path.{_≡_}
 use mathlib.Core.List.{List}
 use Prim.Native.Nat.{ℕ}

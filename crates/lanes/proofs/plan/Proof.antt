@@ -1,4 +1,4 @@
--- `lanes::plan` meets its contract: it is the thin function over `plan_by`, and what that owes is what it says. Assumes nothing.
+-- `lanes::plan` meets its contract: it is the thin function over `plan_by`, and what that owes is what it says.
 use mathlib.Core.Path.{_≡_}
 use mathlib.Core.List.{List}
 use Prim.Native.Nat.{ℕ}

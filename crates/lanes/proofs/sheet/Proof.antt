@@ -1,4 +1,4 @@
--- `lanes::sheet` meets its contract: it is the thin function over `sheet_by`, and what that owes is what it says. Assumes nothing.
+-- `lanes::sheet` meets its contract: it is the thin function over `sheet_by`, and what that owes is what it says.
 use mathlib.Core.Path.{_≡_}
 use mathlib.Core.List.{List}
 use Prim.Native.Nat.{ℕ}

@@ -1,4 +1,4 @@
--- `lanes_c::lanes_check` meets its contract. Assumes nothing.
+-- `lanes_c::lanes_check` meets its contract.
 use mathlib.Core.Path.{ap, sym, _∙_}
 use borrow.Author.Needs.{needs}
 use Rattle.lanes_c.specs.Exported.{said}

@@ -1,4 +1,4 @@
--- `lanes_c::lanes_graph` meets its contract. Assumes nothing.
+-- `lanes_c::lanes_graph` meets its contract.
 use borrow.Author.Needs.{needs}
 use Rattle.lanes.specs.Entry.{graphTally}
 use Rattle.lanes_c.proofs.Tallies.{counts-left}

@@ -1,4 +1,4 @@
--- `lanes_c::lanes_sheet` meets its contract. Assumes nothing.
+-- `lanes_c::lanes_sheet` meets its contract.
 use mathlib.Core.Path.{ap, _∙_}
 use borrow.Author.Needs.{needs}
 use Rattle.lanes.specs.Entry.{stockTally}

@@ -1,4 +1,4 @@
--- `lanes_print::print_check` meets its contract. Assumes nothing.
+-- `lanes_print::print_check` meets its contract.
 use borrow.Author.Needs.{needs}
 use Rattle.lanes_print.proofs.print_check.Statement.{statement}
 use Rattle.lanes_print.proofs.print_check.Tie as tie

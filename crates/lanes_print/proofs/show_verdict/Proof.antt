@@ -1,4 +1,4 @@
--- `lanes_print::show_verdict` meets its contract. Assumes nothing.
+-- `lanes_print::show_verdict` meets its contract.
 use native.Mathlib.Omega.{arith}
 use borrow.Author.Needs.{needs}
 use Rattle.lanes_print.proofs.Printing.{line-prints}

@@ -1,4 +1,4 @@
--- `mate_of` flips the lowest bit. Assumes nothing.
+-- `mate_of` flips the lowest bit.
 use Prim.Native.Nat.{_%_}
 use borrow.Author.Tests.{eq-eqb, ne-eqb}
 use borrow.Author.Needs.{needs}

@@ -1,4 +1,4 @@
--- `lanes::answers::put_arcs` meets its contract: i lines are written. Assumes nothing.
+-- `lanes::answers::put_arcs` meets its contract: i lines are written.
 use Prim.Native.Nat.{ℕ, _-_}
 use lib.ListN.{length}
 use Rattle.frames.specs.Frames.{frameOf4}

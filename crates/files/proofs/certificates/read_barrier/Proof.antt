@@ -1,4 +1,4 @@
--- `lanes::certificates::read_barrier` meets its contract: one law for each way a barrier's questions end. Assumes nothing.
+-- `lanes::certificates::read_barrier` meets its contract: one law for each way a barrier's questions end.
 use borrow.Author.Tests.{not-true, not-false}
 use mathlib.Core.Path.{sym, _∙_}
 use Rattle.files.proofs.CertificateFiles.{barrier-shape, barrier-size, barrier-room, barrier-order, barrier-none}

@@ -1,4 +1,4 @@
--- `lanes::certificates::read_path` meets its contract: one law for each way a path's questions end. Assumes nothing.
+-- `lanes::certificates::read_path` meets its contract: one law for each way a path's questions end.
 use borrow.Author.Tests.{not-true, not-false}
 use mathlib.Core.Path.{sym, _∙_}
 use native.Mathlib.Omega.{arith}

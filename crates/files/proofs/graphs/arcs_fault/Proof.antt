@@ -1,4 +1,4 @@
--- `lanes::graphs::arcs_fault` meets its contract: one number for each question. Assumes nothing.
+-- `lanes::graphs::arcs_fault` meets its contract: one number for each question.
 use mathlib.Core.Path.{sym, _∙_}
 use borrow.Author.Tests.{not-true, not-false}
 use borrow.Author.Needs.{needs}

@@ -1,4 +1,4 @@
--- `lanes::graphs::header_fits` meets its contract: one answer for each way question 5 ends. Assumes nothing.
+-- `lanes::graphs::header_fits` meets its contract: one answer for each way question 5 ends.
 use native.Mathlib.Omega.{arith}
 use Rattle.files.proofs.GraphFiles.{header-long, header-none, header-many, header-yes}
 use borrow.Author.Needs.{needs}

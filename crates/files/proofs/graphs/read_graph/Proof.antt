@@ -1,4 +1,4 @@
--- `lanes::graphs::read_graph` meets its contract: one law for each way the questions end. Assumes nothing.
+-- `lanes::graphs::read_graph` meets its contract: one law for each way the questions end.
 use native.Mathlib.Omega.{arith}
 use Rattle.files.proofs.GraphFiles.{graph-shape, graph-long, graph-odd, graph-many, graph-room, graph-read, no-graph-read}
 use borrow.Author.Needs.{needs}

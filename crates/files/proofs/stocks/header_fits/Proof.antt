@@ -1,4 +1,4 @@
--- `lanes::stocks::header_fits` meets its contract: one answer for each way question 5 ends. Assumes nothing.
+-- `lanes::stocks::header_fits` meets its contract: one answer for each way question 5 ends.
 use native.Mathlib.Omega.{arith}
 use Rattle.files.proofs.StockFiles.{header-long, header-number}
 use borrow.Author.Needs.{needs}

@@ -1,4 +1,4 @@
--- `lanes::stocks::read_stock` meets its contract: one law for each way the questions end. Assumes nothing.
+-- `lanes::stocks::read_stock` meets its contract: one law for each way the questions end.
 use native.Mathlib.Omega.{arith}
 use Rattle.files.proofs.StockFiles.{stock-shape, stock-long, stock-many, fits-room, lit-room, stock-holds, stock-read, no-stock-read}
 use borrow.Author.Needs.{needs}

@@ -1,4 +1,4 @@
--- The classes before c passed. Assumes nothing.
+-- The classes before c passed.
 use mathlib.Core.Path.{_≡_}
 use Prim.Native.Nat.{suc, _≤_, _-_}
 use native.Mathlib.Omega.{arith}

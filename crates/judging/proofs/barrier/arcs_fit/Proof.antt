@@ -1,4 +1,4 @@
--- The arcs before i passed. Assumes nothing.
+-- The arcs before i passed.
 use mathlib.Core.Path.{refl}
 use Prim.Native.Nat.{_≤_, _-_}
 use native.Mathlib.Omega.{arith}

@@ -1,4 +1,4 @@
--- `classes_fit` is `classesFit`, case by case. Assumes nothing.
+-- `classes_fit` is `classesFit`, case by case.
 use mathlib.Core.Path.{sym}
 use Rattle.judging.proofs.Barriers.{fit-same, fit-from-a, fit-into-a, fit-else}
 use Rattle.judging.proofs.barrier.classes_fit.Statement.{statement}

@@ -1,4 +1,4 @@
--- The counters hold the entries of the arcs before i. Assumes nothing.
+-- The counters hold the entries of the arcs before i.
 use mathlib.Core.Path.{sym}
 use mathlib.Core.Logic.{⊎-elim}
 use Prim.Native.Nat.{_≤_, _-_}

@@ -1,4 +1,4 @@
--- Each question of `isBarrier` in turn; the last by the counters. Assumes nothing.
+-- Each question of `isBarrier` in turn; the last by the counters.
 use Prim.Native.Nat.{_*_}
 use mathlib.Core.Path.{_∙_}
 use native.Mathlib.Omega.{arith}

@@ -1,4 +1,4 @@
--- The largest of the classes from k on is kept. Assumes nothing.
+-- The largest of the classes from k on is kept.
 use mathlib.Core.Path.{_≡_, sym}
 use Prim.Native.Nat.{_≤_}
 use native.Mathlib.Omega.{arith}

@@ -1,4 +1,4 @@
--- `mate_class` is `mateClass`, case by case. Assumes nothing.
+-- `mate_class` is `mateClass`, case by case.
 use borrow.Author.Tests.{eq-eqb, ne-eqb}
 use Rattle.judging.proofs.barrier.mate_class.Statement.{statement}
 use Rattle.judging.proofs.barrier.mate_class.Tie as tie

@@ -1,4 +1,4 @@
--- The nodes before v passed. Assumes nothing.
+-- The nodes before v passed.
 use mathlib.Core.Path.{refl}
 use Prim.Native.Nat.{_≤_, _-_}
 use native.Mathlib.Omega.{arith}

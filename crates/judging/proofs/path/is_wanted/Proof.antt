@@ -1,4 +1,4 @@
--- Arc by arc: the nodes seen and the arcs used stand in the two tables. Assumes nothing.
+-- Arc by arc: the nodes seen and the arcs used stand in the two tables.
 use Prim.Native.Nat.{_-_}
 use mathlib.Core.Path.{refl}
 use native.Mathlib.Omega.{arith}

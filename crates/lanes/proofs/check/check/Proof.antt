@@ -1,4 +1,4 @@
--- `lanes::check::check` meets its contract: the graph refused, or the certificate judged over the graph that was read. Assumes nothing.
+-- `lanes::check::check` meets its contract: the graph refused, or the certificate judged over the graph that was read.
 use mathlib.Core.Path.{sym, _∙_}
 use lib.Seq.{length-take-le}
 use Rattle.files.proofs.ArcTables.{held-table}

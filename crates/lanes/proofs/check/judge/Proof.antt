@@ -1,4 +1,4 @@
--- `lanes::check::judge` meets its contract: the answer by the file's first line is the certificate's. Assumes nothing.
+-- `lanes::check::judge` meets its contract: the answer by the file's first line is the certificate's.
 use mathlib.Core.Path.{sym, _∙_}
 use Rattle.arcs.specs.Table.{graphOf}
 use Rattle.lanes.proofs.Verdicts.{barrier-verdict, path-verdict}

@@ -1,4 +1,4 @@
--- `lanes::check::judge_barrier` meets its contract: a barrier refused, or judged by its stored classes. Assumes nothing.
+-- `lanes::check::judge_barrier` meets its contract: a barrier refused, or judged by its stored classes.
 use mathlib.Core.Path.{refl, ap, sym, _∙_}
 use mathlib.Core.Bool.{Bool}
 use lib.Seq.{length-take-le}

@@ -1,4 +1,4 @@
--- `lanes::check::judge_path` meets its contract: a path refused, or judged by its stored arc numbers. Assumes nothing.
+-- `lanes::check::judge_path` meets its contract: a path refused, or judged by its stored arc numbers.
 use mathlib.Core.Path.{ap, sym, _∙_}
 use mathlib.Core.Bool.{Bool}
 use lib.Seq.{length-take-le}

@@ -1,4 +1,4 @@
--- `lanes::check::judged` meets its contract: yes where the certificate holds, otherwise no. Assumes nothing.
+-- `lanes::check::judged` meets its contract: yes where the certificate holds, otherwise no.
 use Rattle.lanes.proofs.check.judged.Statement.{statement}
 use Rattle.lanes.proofs.check.judged.Tie as tie
 

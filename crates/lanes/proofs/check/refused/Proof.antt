@@ -1,4 +1,4 @@
--- `lanes::check::refused` meets its contract: 40 is added. Assumes nothing.
+-- `lanes::check::refused` meets its contract: 40 is added.
 use mathlib.Core.Path.{refl}
 use native.Mathlib.Omega.{arith}
 use Rattle.lanes.proofs.check.refused.Statement.{statement}

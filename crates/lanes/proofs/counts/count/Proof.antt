@@ -1,6 +1,5 @@
 -- `lanes::counts::count` meets its contract: a walk of its MIR, by hand. The borrow is opened, the tally is copied out and passed by value to `counted`,
 -- the result is stored, and the borrow is closed.
--- Assumes nothing.
 use mathlib.Core.Path.{_≡_, refl}
 use Prim.Native.Nat.{ℕ}
 use mathlib.Core.List.{[], _∷_, List}

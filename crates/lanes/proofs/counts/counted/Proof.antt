@@ -1,4 +1,4 @@
--- `lanes::counts::counted` meets its contract. Assumes nothing.
+-- `lanes::counts::counted` meets its contract.
 use borrow.Author.Needs.{needs}
 use Rattle.lanes.proofs.counts.counted.Statement.{statement}
 use Rattle.lanes.proofs.counts.counted.Tie as tie

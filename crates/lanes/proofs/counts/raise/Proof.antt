@@ -1,4 +1,4 @@
--- `lanes::counts::raise` meets its contract. Assumes nothing.
+-- `lanes::counts::raise` meets its contract.
 use borrow.Author.Tests.{lt-ltb, le-ltb}
 use native.Mathlib.Numerals.{add-one}
 use borrow.Author.Needs.{needs}

@@ -1,4 +1,4 @@
--- `lanes::counts::refuse` meets its contract. Assumes nothing.
+-- `lanes::counts::refuse` meets its contract.
 use borrow.Author.Needs.{needs}
 use Rattle.lanes.proofs.counts.refuse.Statement.{statement}
 use Rattle.lanes.proofs.counts.refuse.Tie as tie

@@ -1,4 +1,4 @@
--- `lanes::graph_calls::answer` meets its contract. Assumes nothing.
+-- `lanes::graph_calls::answer` meets its contract.
 use borrow.Author.Needs.{needs}
 use Rattle.lanes.proofs.graph_calls.answer.Statement.{statement}
 use Rattle.lanes.proofs.graph_calls.answer.Tie as tie

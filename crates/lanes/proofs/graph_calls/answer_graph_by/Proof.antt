@@ -1,4 +1,4 @@
--- `lanes::graph_calls::answer_graph_by` meets its contract: refused, or what was written is what is owed. Assumes nothing.
+-- `lanes::graph_calls::answer_graph_by` meets its contract: refused, or what was written is what is owed.
 use mathlib.Core.Path.{sym}
 use native.Mathlib.Omega.{arith}
 use lib.Seq.{length-take-le}

@@ -1,4 +1,4 @@
--- `lanes::graph_calls::write_graph` meets its contract: a path or a barrier, as the search found. Assumes nothing.
+-- `lanes::graph_calls::write_graph` meets its contract: a path or a barrier, as the search found.
 use mathlib.Core.Path.{sym, _∙_}
 use native.Mathlib.Omega.{arith}
 use Rattle.lanes.proofs.GraphCalls.{path-found, barrier-found, path-answered, barrier-answered}

@@ -1,4 +1,4 @@
--- `lanes::stock_calls::answer` meets its contract. Assumes nothing.
+-- `lanes::stock_calls::answer` meets its contract.
 use borrow.Author.Needs.{needs}
 use Rattle.lanes.proofs.stock_calls.answer.Statement.{statement}
 use Rattle.lanes.proofs.stock_calls.answer.Tie as tie

@@ -1,4 +1,4 @@
--- `lanes::stock_calls::plan_by` meets its contract: one answer for each way the questions end. Assumes nothing.
+-- `lanes::stock_calls::plan_by` meets its contract: one answer for each way the questions end.
 use mathlib.Core.Path.{sym}
 use native.Mathlib.Omega.{arith}
 use lib.Seq.{length-take-le}

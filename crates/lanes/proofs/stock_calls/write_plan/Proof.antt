@@ -1,4 +1,4 @@
--- `lanes::stock_calls::write_plan` meets its contract: the pairs of the row that the search leaves, written. Assumes nothing.
+-- `lanes::stock_calls::write_plan` meets its contract: the pairs of the row that the search leaves, written.
 use mathlib.Core.Path.{sym}
 use native.Mathlib.Omega.{arith}
 use lib.ListN.{length-take}

@@ -1,4 +1,4 @@
--- `lanes::stock_calls::write_sheet` meets its contract: the marks and the number of pairs that the search tells, written. Assumes nothing.
+-- `lanes::stock_calls::write_sheet` meets its contract: the marks and the number of pairs that the search tells, written.
 use native.Mathlib.Omega.{arith}
 use Rattle.lanes.proofs.StockCalls.{sheet-written}
 use borrow.Author.Needs.{needs}

@@ -1,4 +1,4 @@
--- Each return is one case of the mark. Assumes nothing.
+-- Each return is one case of the mark.
 use native.Mathlib.Omega.{arith}
 use borrow.Author.Tests.{lt-ltb, le-ltb}
 use Rattle.pairing.proofs.marks.mark_of.Statement.{statement}

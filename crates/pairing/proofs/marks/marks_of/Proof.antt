@@ -1,4 +1,4 @@
--- Camera by camera: the marks before k are read. Assumes nothing.
+-- Camera by camera: the marks before k are read.
 use mathlib.Core.Path.{_≡_, refl, _∙_}
 use Prim.Native.Nat.{ℕ, _-_, _≤_, _<_}
 use native.Mathlib.Omega.{arith}

@@ -1,4 +1,4 @@
--- The doubled table is searched; a path is followed, or the reached nodes are told. Assumes nothing.
+-- The doubled table is searched; a path is followed, or the reached nodes are told.
 use mathlib.Core.Path.{sym}
 use native.Mathlib.Omega.{arith}
 use lib.Seq.{length-take-le}

@@ -1,4 +1,4 @@
--- Search by search: every lit camera stays lit, and the last search finds no path. Assumes nothing.
+-- Search by search: every lit camera stays lit, and the last search finds no path.
 use mathlib.Core.Path.{_≡_, refl, subst, sym, _∙_}
 use mathlib.Core.Bool.{false}
 use Prim.Native.Nat.{ℕ, _+_}

@@ -1,4 +1,4 @@
--- The row of the lit pairs is improved until it is largest. Assumes nothing.
+-- The row of the lit pairs is improved until it is largest.
 use mathlib.Core.Path.{sym}
 use native.Mathlib.Omega.{arith}
 use lib.ListN.{length}

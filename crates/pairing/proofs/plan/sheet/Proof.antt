@@ -1,4 +1,4 @@
--- The front of a local table is lent. Assumes nothing.
+-- The front of a local table is lent.
 use mathlib.Core.Path.{sym}
 use native.Mathlib.Omega.{arith}
 use lib.Seq.{length-take-le}

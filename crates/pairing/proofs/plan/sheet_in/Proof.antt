@@ -1,4 +1,4 @@
--- The last search tells the marks, and the row the number of pairs. Assumes nothing.
+-- The last search tells the marks, and the row the number of pairs.
 use native.Mathlib.Omega.{arith}
 use denote.Ref.{now}
 use borrow.Author.Needs.{needs}

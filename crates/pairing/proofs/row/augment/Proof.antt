@@ -1,4 +1,4 @@
--- Rotation by rotation: the rotations done and those left are those of the path. Assumes nothing.
+-- Rotation by rotation: the rotations done and those left are those of the path.
 use mathlib.Core.Path.{sym, subst}
 use mathlib.Core.List.{List}
 use Prim.Native.Nat.{_+_, _-_, _≤_, ℕ}

@@ -1,4 +1,4 @@
--- Camera by camera: those before k are their own partners. Assumes nothing.
+-- Camera by camera: those before k are their own partners.
 use mathlib.Core.Path.{_≡_, refl, _∙_}
 use Prim.Native.Nat.{ℕ, _-_, _≤_, _<_}
 use native.Mathlib.Omega.{arith}

@@ -1,4 +1,4 @@
--- Pair by pair, the last first: the row stands for the pairs from i on. Assumes nothing.
+-- Pair by pair, the last first: the row stands for the pairs from i on.
 use mathlib.Core.Path.{_≡_, refl, sym, ap, _∙_}
 use Prim.Native.Nat.{ℕ, _+_, _-_, _≤_}
 use native.Mathlib.Omega.{arith}

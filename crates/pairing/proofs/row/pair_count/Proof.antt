@@ -1,4 +1,4 @@
--- Camera by camera: the pairs counted and those left are all. Assumes nothing.
+-- Camera by camera: the pairs counted and those left are all.
 use mathlib.Core.Path.{_≡_, ap}
 use mathlib.Core.Logic.{⊎-elim}
 use mathlib.Core.List.{List}

@@ -1,4 +1,4 @@
--- Camera by camera: what is written and what is left are all pairs. Assumes nothing.
+-- Camera by camera: what is written and what is left are all pairs.
 use mathlib.Core.Path.{_≡_, refl, _∙_}
 use mathlib.Core.List.{_++_}
 use Prim.Native.Nat.{_+_, _-_, _≤_}

@@ -1,4 +1,4 @@
--- Each return is one case of a camera. Assumes nothing.
+-- Each return is one case of a camera.
 use mathlib.Core.Path.{_≡_}
 use mathlib.Core.List.{[]}
 use native.Mathlib.Omega.{arith}

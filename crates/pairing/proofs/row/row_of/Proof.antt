@@ -1,4 +1,4 @@
--- No pair lit, and then each. Assumes nothing.
+-- No pair lit, and then each.
 use mathlib.Core.Path.{sym, subst}
 use Prim.Native.Nat.{ℕ}
 use denote.Ref.{now}

@@ -1,4 +1,4 @@
--- An arc and its mate, in two stores to each table. Assumes nothing.
+-- An arc and its mate, in two stores to each table.
 use denote.Ref.{now}
 use borrow.Author.Needs.{needs}
 use Rattle.pairing.proofs.Writing.{put-two}

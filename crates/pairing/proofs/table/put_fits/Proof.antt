@@ -1,4 +1,4 @@
--- Fit by fit: what is written and what is left are the arcs of every fit. Assumes nothing.
+-- Fit by fit: what is written and what is left are the arcs of every fit.
 use mathlib.Core.Path.{_≡_, refl, _∙_}
 use mathlib.Core.List.{_++_}
 use Prim.Native.Nat.{_+_, _-_, _*_, _≤_}

@@ -1,4 +1,4 @@
--- The cameras' arcs and then the fits' are the doubled table. Assumes nothing.
+-- The cameras' arcs and then the fits' are the doubled table.
 use mathlib.Core.Path.{_∙_}
 use native.Mathlib.Omega.{arith}
 use denote.Ref.{now}

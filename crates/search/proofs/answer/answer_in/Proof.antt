@@ -1,4 +1,4 @@
--- The source's mate is reached and the path restored, or the classes are written. Assumes nothing.
+-- The source's mate is reached and the path restored, or the classes are written.
 use Rattle.search.proofs.Answers.{source-small, restorable, answers-path, barred, answers-barrier}
 use borrow.Author.Needs.{needs}
 use Rattle.search.proofs.answer.answer_in.Statement.{statement}

@@ -1,4 +1,4 @@
--- The fronts of the local tables are lent. Assumes nothing.
+-- The fronts of the local tables are lent.
 use mathlib.Core.Path.{sym}
 use native.Mathlib.Omega.{arith}
 use lib.Seq.{length-take-le}

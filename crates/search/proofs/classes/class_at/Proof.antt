@@ -1,4 +1,4 @@
--- The four kinds of node in turn. Assumes nothing.
+-- The four kinds of node in turn.
 use native.Mathlib.Omega.{arith}
 use Rattle.search.proofs.ClassTables.{class-reads, class-M, class-A, class-A′, in-bud, class-old, class-new}
 use borrow.Author.Needs.{needs}

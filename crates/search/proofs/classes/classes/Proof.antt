@@ -1,4 +1,4 @@
--- The classes of the nodes before v are written. Assumes nothing.
+-- The classes of the nodes before v are written.
 use Prim.Native.Nat.{_≤_, _-_}
 use native.Mathlib.Omega.{arith}
 use lib.ListN.{length}

@@ -1,4 +1,4 @@
--- From bud to bud towards the root, the birth number falling. Assumes nothing.
+-- From bud to bud towards the root, the birth number falling.
 use native.Mathlib.Omega.{arith}
 use lib.ListN.{getD}
 use Rattle.search.proofs.Roots.{RootAscent, root-ascent-start, root-ascent-next, root-ascent-less, root-ascent-end, mate-reads, x-half}

@@ -1,4 +1,4 @@
--- The path that the labels give is written, the birth number falling at each inner call. Assumes nothing.
+-- The path that the labels give is written, the birth number falling at each inner call.
 use Prim.Native.Nat.{_+_}
 use mathlib.Core.Path.{ap, subst, _∙_}
 use native.Mathlib.Omega.{arith}

@@ -1,4 +1,4 @@
--- The places before a and from b on are reversed. Assumes nothing.
+-- The places before a and from b on are reversed.
 use Prim.Native.Nat.{_-_}
 use native.Mathlib.Omega.{arith}
 use lib.ListN.{length-set}

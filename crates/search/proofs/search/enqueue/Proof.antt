@@ -1,4 +1,4 @@
--- The nodes before v that the event reached stand in the queue. Assumes nothing.
+-- The nodes before v that the event reached stand in the queue.
 use Prim.Native.Nat.{_≤_, _-_}
 use mathlib.Core.Path.{_≡_, _∙_}
 use mathlib.Core.Logic.{⊎-elim}

@@ -1,4 +1,4 @@
--- The three ways to be settled, and the two not to be. Assumes nothing.
+-- The three ways to be settled, and the two not to be.
 use native.Mathlib.Omega.{arith}
 use Rattle.search.proofs.Ascents.{arc-bounds}
 use Rattle.search.proofs.Looks.{settled-reads, inside-bud, enters-bud, leaves-bud, loop-unsettled, link-unsettled}

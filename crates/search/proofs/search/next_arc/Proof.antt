@@ -1,4 +1,4 @@
--- No arc from `from` to i leaves x. Assumes nothing.
+-- No arc from `from` to i leaves x.
 use Prim.Native.Nat.{ℕ, _≤_, _<_, _-_}
 use mathlib.Core.Path.{_≡_, sym, _∙_}
 use native.Mathlib.Omega.{arith}

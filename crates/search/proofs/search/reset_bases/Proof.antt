@@ -1,4 +1,4 @@
--- The bases before k are reset. Assumes nothing.
+-- The bases before k are reset.
 use Prim.Native.Nat.{_≤_, _-_}
 use lib.ListN.{length}
 use mathlib.Core.Path.{refl}

@@ -1,4 +1,4 @@
--- The node's arcs below i are looked at. Assumes nothing.
+-- The node's arcs below i are looked at.
 use Prim.Native.Nat.{_≤_, _<_, _-_}
 use mathlib.Core.Path.{_≡_}
 use native.Mathlib.Omega.{arith}

@@ -1,4 +1,4 @@
--- The nodes in the first `taken` places of the queue are scanned. Assumes nothing.
+-- The nodes in the first `taken` places of the queue are scanned.
 use Prim.Native.Nat.{_*_, _-_}
 use mathlib.Core.Path.{_≡_}
 use native.Mathlib.Omega.{arith}

@@ -1,4 +1,4 @@
--- The stores that start a search. Assumes nothing.
+-- The stores that start a search.
 use native.Mathlib.Omega.{arith}
 use Rattle.search.proofs.Searches.{search-starts}
 use borrow.Author.Needs.{needs}

@@ -1,4 +1,4 @@
--- The base is marked, its mate labelled, its base arc followed. Assumes nothing.
+-- The base is marked, its mate labelled, its base arc followed.
 use mathlib.Core.Path.{refl}
 use borrow.Author.Needs.{needs}
 use Rattle.search.proofs.steps.absorb.Statement.{statement}

@@ -1,4 +1,4 @@
--- The end with the later base goes up, so that the sum of the two birth numbers falls. Assumes nothing.
+-- The end with the later base goes up, so that the sum of the two birth numbers falls.
 use Prim.Native.Nat.{_+_}
 use native.Mathlib.Omega.{arith}
 use lib.ListN.{getD}

@@ -1,4 +1,4 @@
--- Case by case. Assumes nothing.
+-- Case by case.
 use borrow.Author.Tests.{eq-eqb, ne-eqb}
 use Rattle.search.proofs.steps.birth_after.Statement.{statement}
 use Rattle.search.proofs.steps.birth_after.Tie as tie

@@ -1,4 +1,4 @@
--- An ascent, and the births, bases and marks mapped after it, are the bud step. Assumes nothing.
+-- An ascent, and the births, bases and marks mapped after it, are the bud step.
 use mathlib.Core.Path.{refl}
 use native.Mathlib.Omega.{arith}
 use Rattle.search.proofs.BudSteps.{maps-asked, mate-asked, bud-stepped}

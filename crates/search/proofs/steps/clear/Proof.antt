@@ -1,4 +1,4 @@
--- The elements before k are zero. Assumes nothing.
+-- The elements before k are zero.
 use Prim.Native.Nat.{_≤_, _-_}
 use lib.ListN.{length}
 use mathlib.Core.Path.{refl}

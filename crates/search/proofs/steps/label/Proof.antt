@@ -1,4 +1,4 @@
--- Case by case. Assumes nothing.
+-- Case by case.
 use borrow.Author.Tests.{eq-eqb, ne-eqb}
 use borrow.Author.Needs.{needs}
 use Rattle.search.proofs.steps.label.Statement.{statement}

@@ -1,4 +1,4 @@
--- The births of the nodes before v are mapped. Assumes nothing.
+-- The births of the nodes before v are mapped.
 use Prim.Native.Nat.{_≤_, _-_, _/_}
 use lib.ListN.{length}
 use native.Mathlib.Omega.{arith}

@@ -1,4 +1,4 @@
--- The bases of the mate pairs before k are mapped. Assumes nothing.
+-- The bases of the mate pairs before k are mapped.
 use Prim.Native.Nat.{_≤_, _-_}
 use lib.ListN.{length}
 use native.Mathlib.Omega.{arith}

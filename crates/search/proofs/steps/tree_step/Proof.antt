@@ -1,4 +1,4 @@
--- Three stores are the tree step. Assumes nothing.
+-- Three stores are the tree step.
 use native.Mathlib.Omega.{arith}
 use Rattle.search.proofs.TreeSteps.{tree-stepped}
 use Rattle.search.proofs.Ascents.{arc-bounds}
