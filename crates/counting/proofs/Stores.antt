@@ -1,17 +1,21 @@
--- Runs of stores into a list. Assumes nothing.
+-- Runs of stores into a list.
 --   sets-append                     a run of stores behind another is one run
+--   take-sets                       what was stored at the front, read back
 --   getD-sets-out, getD-sets-in     what is read outside the run, and inside it
 use mathlib.Core.Path.{_≡_, refl, _∙_}
 use mathlib.Core.Logic.{_⊎_, inl, inr, ⊎-elim}
 use mathlib.Core.List.{List, [], _∷_, _++_}
 use Prim.Native.Nat.{ℕ, zero, suc, _+_, _≤_, _<_}
 use native.Mathlib.Omega.{arith}
-use lib.ListN.{length, getD, set, length-set}
-use lib.Seq.{sets, getD-set-same, getD-set-other}
+use lib.ListN.{length, getD, set, take, drop, length-set}
+use lib.Seq.{sets, sets-eq, take-append-seam, getD-set-same, getD-set-other}
 
 pub sets-append : (l : List ℕ) (i : ℕ) (xs ys : List ℕ) → sets (sets l i xs) (i + length xs) ys ≡ sets l i (xs ++ ys)
 sets-append l i [] ys = let e : i + 0 ≡ i = omega arith in rw e
 sets-append l i (x ∷ xs) ys = let e : i + suc (length xs) ≡ suc i + length xs = omega arith in rw e (sets-append (set l i x) (suc i) xs ys)
+
+pub take-sets : (l xs : List ℕ) → length xs ≤ length l → take (length xs) (sets l 0 xs) ≡ xs
+take-sets l xs h = rw (sets-eq xs l 0 (omega arith)) (take-append-seam xs (drop (0 + length xs) l))
 
 pub getD-sets-out : (l : List ℕ) (i k : ℕ) (xs : List ℕ) → (k < i) ⊎ (i + length xs ≤ k) → getD (sets l i xs) k 0 ≡ getD l k 0
 getD-sets-out l i k [] h = refl

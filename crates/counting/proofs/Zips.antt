@@ -1,13 +1,19 @@
--- Two lists of one length, pair by pair. Assumes nothing.
+-- Two lists of one length, pair by pair; and the first and second numbers of pairs.
 --   zip-length      as many pairs
 --   zip-at          the pair at a place: what both lists have there
 --   zip-snoc        one element more at the end of both
+--   zip-seconds     the second numbers of what was zipped
+--   firsts-length, seconds-length    as many numbers as pairs
+--   zip-ends        pairs are their first and second numbers, zipped
+--   pairs-stored    pairs stored at the front of two lists, read back
 use mathlib.Core.Path.{_≡_, refl, ap}
 use mathlib.Core.List.{List, [], _∷_, _++_}
-use Prim.Native.Nat.{ℕ, zero, suc, _<_}
+use Prim.Native.Nat.{ℕ, zero, suc, _≤_, _<_}
 use native.Mathlib.Omega.{arith}
-use lib.ListN.{length, getD}
-use Rattle.counting.specs.Pairs.{Pair, pair, noPair, zipPairs}
+use lib.ListN.{length, getD, take}
+use lib.Seq.{sets}
+use Rattle.counting.specs.Pairs.{Pair, pair, noPair, firstsOf, secondsOf, zipPairs, pairsOf}
+use Rattle.counting.proofs.Stores.{take-sets}
 
 pub zip-length : (xs ys : List ℕ) → length ys ≡ length xs → length (zipPairs xs ys) ≡ length xs
 unfolding zipPairs
@@ -28,3 +34,34 @@ zip-snoc [] [] a b e = refl
 zip-snoc [] (y ∷ ys) a b e = absurd (omega arith)
 zip-snoc (x ∷ xs) [] a b e = absurd (omega arith)
 zip-snoc (x ∷ xs) (y ∷ ys) a b e = ap (λ (l : List Pair). pair x y ∷ l) (zip-snoc xs ys a b (omega arith))
+
+pub zip-seconds : (xs ys : List ℕ) → length ys ≡ length xs → secondsOf (zipPairs xs ys) ≡ ys
+unfolding zipPairs secondsOf
+zip-seconds [] [] e = refl
+zip-seconds [] (y ∷ ys) e = absurd (omega arith)
+zip-seconds (x ∷ xs) [] e = absurd (omega arith)
+zip-seconds (x ∷ xs) (y ∷ ys) e = ap (λ (l : List ℕ). y ∷ l) (zip-seconds xs ys (omega arith))
+
+pub firsts-length : (xs : List Pair) → length (firstsOf xs) ≡ length xs
+unfolding firstsOf
+firsts-length [] = refl
+firsts-length (x ∷ xs) = ap suc (firsts-length xs)
+
+pub seconds-length : (xs : List Pair) → length (secondsOf xs) ≡ length xs
+unfolding secondsOf
+seconds-length [] = refl
+seconds-length (x ∷ xs) = ap suc (seconds-length xs)
+
+pub zip-ends : (xs : List Pair) → zipPairs (firstsOf xs) (secondsOf xs) ≡ xs
+unfolding zipPairs firstsOf secondsOf
+zip-ends [] = refl
+zip-ends (x ∷ xs) = ap (λ (l : List Pair). x ∷ l) (zip-ends xs)
+
+pub pairs-stored : (xs : List Pair) (us vs : List ℕ) → length xs ≤ length us → length xs ≤ length vs →
+    pairsOf (length xs) (sets us 0 (firstsOf xs)) (sets vs 0 (secondsOf xs)) ≡ xs
+pairs-stored xs us vs h k =
+    let f = firsts-length xs in
+    let s = seconds-length xs in
+    let a : take (length xs) (sets us 0 (firstsOf xs)) ≡ firstsOf xs = rw f at (take-sets us (firstsOf xs) (omega arith)) in
+    let b : take (length xs) (sets vs 0 (secondsOf xs)) ≡ secondsOf xs = rw s at (take-sets vs (secondsOf xs) (omega arith)) in
+    rw (a, b) (zip-ends xs)

@@ -2,6 +2,8 @@
 --   pair a b           the pair of a and b
 --   noPair             the pair of zeros, read past a list's end
 --   ends xs            the numbers of the pairs, both of each, in order
+--   firstsOf xs        the first number of each pair, in order
+--   secondsOf xs       the second number of each pair (document 03)
 --   zipPairs xs ys     two lists, pair by pair, as far as both go
 --   pairsOf n xs ys    the first n elements of both
 use mathlib.Core.List.{List, [], _∷_}
@@ -21,6 +23,14 @@ noPair = pair 0 0
 unfoldable pub ends : List Pair → List ℕ
 ends [] = []
 ends (x ∷ xs) = x .first ∷ x .second ∷ ends xs
+
+unfoldable pub firstsOf : List Pair → List ℕ
+firstsOf [] = []
+firstsOf (x ∷ xs) = x .first ∷ firstsOf xs
+
+unfoldable pub secondsOf : List Pair → List ℕ
+secondsOf [] = []
+secondsOf (x ∷ xs) = x .second ∷ secondsOf xs
 
 unfoldable pub zipPairs : List ℕ → List ℕ → List Pair
 zipPairs [] ys = []

@@ -4,24 +4,16 @@
 --   pairs-next      from a place on: that pair, and what follows
 --   pairs-none      past the count nothing
 --   seconds-are     the second numbers: the second slice
-use mathlib.Core.Path.{_≡_, refl, ap, sym, _∙_}
+use mathlib.Core.Path.{_≡_, sym, _∙_}
 use mathlib.Core.List.{List, [], _∷_}
 use Prim.Native.Nat.{ℕ, _+_, _≤_, _<_}
 use native.Mathlib.Omega.{arith}
 use lib.ListN.{length, getD, take, drop, drop-of-length-le}
 use lib.Seq.{length-take-le, getD-take}
-use Rattle.counting.specs.Pairs.{pair, noPair, zipPairs, pairsOf}
-use Rattle.counting.proofs.Zips.{zip-length, zip-at}
+use Rattle.counting.specs.Pairs.{pair, noPair, secondsOf, pairsOf}
+use Rattle.counting.proofs.Zips.{zip-length, zip-at, zip-seconds}
 use Rattle.files.specs.Tables.{Holds}
-use Rattle.files.specs.CertificateFile.{secondsOf}
 use Rattle.files.proofs.Scans.{drop-next}
-
-zip-seconds : (xs ys : List ℕ) → length ys ≡ length xs → secondsOf (zipPairs xs ys) ≡ ys
-unfolding zipPairs secondsOf
-zip-seconds [] [] h = refl
-zip-seconds [] (y ∷ ys) h = absurd (omega arith)
-zip-seconds (x ∷ xs) [] h = absurd (omega arith)
-zip-seconds (x ∷ xs) (y ∷ ys) h = ap (λ (zs : List ℕ). y ∷ zs) (zip-seconds xs ys (omega arith))
 
 module _ {n : ℕ} {us vs : List ℕ} (r : Holds n us vs) where
   same-length : length (take n vs) ≡ length (take n us)

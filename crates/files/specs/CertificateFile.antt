@@ -10,7 +10,7 @@ use Prim.Native.Nat.{ℕ, suc}
 use lib.Dec.{ltb, leb, eqb}
 use lib.ListN.{length}
 use Rattle.counting.specs.Tests.{pick, all}
-use Rattle.counting.specs.Pairs.{Pair}
+use Rattle.counting.specs.Pairs.{Pair, secondsOf}
 use Rattle.frames.specs.Frames.{orElse, unless, hexAt, firstLine, bodyLines, shapeFault, pathForm, barrierForm, pairsIn, numbersIn, frame2, frame6, frameOf4}
 use Rattle.skew.specs.Graph.{Graph, nodes, isWanted, isBarrier}
 
@@ -30,10 +30,6 @@ pathFault g f =
 unfoldable pub namesInOrder : (node : ℕ) → List Pair → Bool
 namesInOrder i [] = true
 namesInOrder i (x ∷ xs) = eqb (x .first) i && leb (x .second) 130 && namesInOrder (suc i) xs
-
-unfoldable pub secondsOf : List Pair → List ℕ
-secondsOf [] = []
-secondsOf (x ∷ xs) = x .second ∷ secondsOf xs
 
 abbrev pub barrierClasses : (file : List ℕ) → List ℕ
 barrierClasses f = secondsOf (pairsIn 50 (bodyLines f))
