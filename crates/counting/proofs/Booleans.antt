@@ -1,7 +1,8 @@
 -- Tests, which are Booleans, taken apart and put together. Assumes nothing.
---   and-left, and-right, and-two .. and-five    what a true conjunction says of its parts
+--   and-left, and-right                         what a true conjunction says of its parts
+--   and-two, and-three, and-four, and-five      the same of all parts at once
 --   and-both, or-right, or-cases                how true tests are put together, and a true `||` taken apart
---   and-false, or-false-left, or-false-right    the same for tests that are false
+--   or-false-left, or-false-right               what a false `||` says of its parts
 --   test-same                                   two tests that imply each other are equal
 --   pick-true, pick-false                       what `pick` picks
 --   by-test                                     cases on a test, with its equation
@@ -47,11 +48,6 @@ or-right false b e = e
 pub or-cases : (a b : Bool) → (a || b) ≡ true → (a ≡ true) ⊎ (b ≡ true)
 or-cases true b e = inl refl
 or-cases false b e = inr e
-
-pub and-false : (a b : Bool) → (a ≡ false) ⊎ (b ≡ false) → (a && b) ≡ false
-and-false a b (inl e) = rw e
-and-false true b (inr e) = e
-and-false false b (inr e) = refl
 
 pub or-false-left : (a b : Bool) → (a || b) ≡ false → a ≡ false
 or-false-left true b e = e

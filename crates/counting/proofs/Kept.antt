@@ -1,7 +1,6 @@
 -- The elements that pass a test. Assumes nothing.
 --   in-keep, keep-in     an element is kept exactly if it passes
 --   keep-distinct        no repeats come about
---   keep-none            where nothing passes, nothing is kept
 --   keep-or              of two tests that exclude each other: the numbers kept add up
 --   found                what `find` finds passes, where anything does
 use mathlib.Core.Path.{_≡_, refl}
@@ -36,11 +35,6 @@ unfolding keep
 keep-distinct f [] d = tt
 keep-distinct f (y ∷ ys) d =
     by-test (f y) (λ s. rw s (λ m. d .0 (in-keep f ys y m .0), keep-distinct f ys (d .1))) (λ s. rw s (keep-distinct f ys (d .1)))
-
-pub keep-none : {A : Type 0} (f : A → Bool) (xs : List A) → ((x : A) → In x xs → f x ≡ false) → keep f xs ≡ []
-unfolding keep
-keep-none f [] h = refl
-keep-none f (x ∷ xs) h = rw (h x (inl refl)) (keep-none f xs (λ y m. h y (inr m)))
 
 pub keep-or : {A : Type 0} (f h : A → Bool) (xs : List A) → ((x : A) → In x xs → f x ≡ true → h x ≡ false) →
     length (keep (λ (x : A). f x || h x) xs) ≡ length (keep f xs) + length (keep h xs)

@@ -8,7 +8,7 @@
 --   Range          the numbers below a bound; bounded search
 --   Involutions    closed under an involution without fixed points: an even number
 --   Numbering      kept elements numbered by how many come before
---   Summation      sums compared, added and exchanged
+--   Summation      sums compared
 --   Stores         runs of stores into a list
 --   Zips           two lists, pair by pair
 pub mod Booleans

@@ -2,20 +2,17 @@
 --   up-in, in-up, length-up, distinct-up      upFrom a n: from a on, below a + n, n of them, no repeats
 --   up-cons, up-none                          what is left below a bound: the first and the rest, or nothing
 --   pigeonhole                                numbers below n without repeats: at most n of them
---   some-below                                bounded search: some number below n has it, or none has
---   some-or-each                              the same where each number has one thing or another
+--   some-or-each                              bounded search: some number below n has the one thing, or all have the other
 use mathlib.Core.Path.{_≡_, refl, sym, ap, subst, _∙_}
 use mathlib.Core.Logic.{_⊎_, inl, inr, ⊎-elim}
-use mathlib.Core.Bool.{Bool, true, false}
 use mathlib.Core.List.{List, [], _∷_}
 use Prim.Native.Nat.{ℕ, zero, suc, _+_, _-_, _≤_, _<_}
 use native.Mathlib.Numerals.{add-one}
 use native.Mathlib.Omega.{arith}
 use lib.ListN.{length}
-use Rattle.counting.specs.Tests.{any, upFrom, below}
+use Rattle.counting.specs.Tests.{upFrom, below}
 use Rattle.counting.specs.Lists.{In, Within, Distinct}
-use Rattle.counting.proofs.Booleans.{by-test, true-false, same-or}
-use Rattle.counting.proofs.Membership.{any-some, some-any}
+use Rattle.counting.proofs.Booleans.{same-or}
 use Rattle.counting.proofs.Pigeonhole.{distinct-within}
 
 pub up-in : (a n i : ℕ) → a ≤ i → i < a + n → In i (upFrom a n)
@@ -52,12 +49,6 @@ up-none a n h = let e : n - a ≡ 0 = omega arith in ap (λ (m : ℕ). upFrom a 
 pub pigeonhole : (n : ℕ) (xs : List ℕ) → Distinct xs → Within (λ (x : ℕ). x < n) xs → length xs ≤ n
 pigeonhole n xs d w =
     omega (arith, length-up 0 n, distinct-within xs (below n) d (λ x m. up-in 0 n x (omega arith) (omega (arith, w x m))))
-
-pub some-below : (f : ℕ → Bool) (n : ℕ) → ((i : ℕ) × (i < n) × (f i ≡ true)) ⊎ ((i : ℕ) → i < n → f i ≡ false)
-some-below f n =
-    by-test (any f (below n))
-    (λ t. let r = any-some f (below n) t in inl (r .0, omega (arith, in-up 0 n (r .0) (r .1)), r .2))
-    (λ t. inr (λ i h. by-test (f i) (λ s. true-false (some-any f i (below n) (up-in 0 n i (omega arith) (omega arith)) s) t) (λ s. s)))
 
 pub some-or-each : {P Q : ℕ → Type 0} (n : ℕ) → ((i : ℕ) → i < n → P i ⊎ Q i) → ((i : ℕ) × (i < n) × P i) ⊎ ((i : ℕ) → i < n → Q i)
 some-or-each zero f = inr (λ i h. absurd (omega arith))

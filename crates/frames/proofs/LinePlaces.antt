@@ -1,7 +1,6 @@
 -- Lines by their places in a file. Assumes nothing.
 --   line-here                                     what a place, the line's length and its line end make a LineAt
 --   SameLine, same-..                             no line end stands from one place up to another; how a reader moves on
---   line-ended                                    a line with more after it has a line end
 --   lines-here, lines-some, last-here             the lines from a place on: the line there, and those from the next on
 --   ends-here                                     whether the last line is ended, from a place on
 --   part-snoc                                     a part with one byte more
@@ -75,12 +74,6 @@ length-fits : (s : List ℕ) → lineLength s ≤ length s
 length-fits [] = rw length-nil (omega arith)
 length-fits (c ∷ cs) =
     by-end c cs (λ h. omega (arith, length-end c cs h)) (λ h. omega (arith, length-byte c cs h, length-fits cs))
-
-length-stops : (s : List ℕ) → lineEnd (atEnd s) ≡ 0 → lineLength s ≡ length s
-length-stops [] e = length-nil
-length-stops (c ∷ cs) e =
-    by-end c cs (λ h. let z = rw (length-end c cs h) at e in absurd (omega arith))
-    (λ h. length-byte c cs h ∙ ap suc (length-stops cs (rw (length-byte c cs h) at e)))
 
 -- one byte of a line, by its place
 module _ (f : List ℕ) (i : ℕ) where
@@ -191,16 +184,6 @@ module _ (f : List ℕ) (at end next : ℕ) (h : LineAt f at end next) where
 
   first-part : firstOf (drop at f) ≡ part at end f
   first-part = let n : lineLength (drop at f) ≡ end - at = omega arith in rw n
-
-  pub line-ended : next < length f → end < next
-  line-ended m =
-      by-test (ltb 0 (lineEnd (drop end f))) (λ t. let z : 0 < lineEnd (drop end f) = ltb-true _ _ t in omega arith)
-      (λ t.
-      let z : lineEnd (drop end f) ≤ 0 = ltb-false _ _ t in
-      let w : lineEnd (atEnd (drop at f)) ≡ 0 = rw at-end (omega arith) in
-      let l = length-stops (drop at f) w in
-      let d = length-drop at f in
-      absurd (omega arith))
 
   pub lines-here : linesOf (drop at f) ≡ part at end f ∷ linesOf (drop next f)
   lines-here =

@@ -3,7 +3,7 @@
 --   written-rest, written-then          the same of what two calls wrote
 --   written-over                        the same of a text written at the front
 --   hexBytes-length, hexBytes-split     digits: how many; four are the upper two and the lower two
---   frame2-length .. frameOf4-length    how many bytes a frame takes
+--   frame4-length, frame6-length, frameOf4-length      how many bytes a frame takes
 --   hex2-written, hex4-written          two digits as two stores; four as two writes
 --   text-step, text-written             a text written byte by byte
 --   barrierLine-frame                   the fixed bytes of the first line of a barrier are its frame
@@ -45,9 +45,6 @@ pub hexBytes-length : (n v : ℕ) → length (hexBytes n v) ≡ n
 unfolding hexBytes
 hexBytes-length zero v = refl
 hexBytes-length (suc n) v = rw (length-append, hexBytes-length n (v / 16)) (omega arith)
-
-pub frame2-length : (k : ℕ) → length (frame2 k) ≡ 3
-frame2-length k = simp (length-append, hexBytes-length)
 
 pub frame4-length : (k a : ℕ) → length (frame4 k a) ≡ 5
 frame4-length k a = simp (length-append, hexBytes-length)

@@ -4,9 +4,8 @@
 --   outer-left, left-outer                               outer cameras are those that some largest pairing leaves over
 --   no-path-mark, no-path-marks                          a camera's mark; all marks
 --   marks-at, marks-length                               marks read off any table of nodes, one for each camera
---   augmented-pairs, path-less, no-path-is               a path gives one pair more, so there is none exactly where the pairing is largest
 use mathlib.Core.Path.{_≡_, refl, ap, _∙_}
-use mathlib.Core.Logic.{inl, inr, ⊎-elim, _↔_}
+use mathlib.Core.Logic.{inl, inr, ⊎-elim}
 use mathlib.Core.Bool.{Bool, true, false}
 use mathlib.Core.List.{List, [], _∷_}
 use Prim.Native.Nat.{ℕ, zero, suc, _+_, _*_, _≤_, _<_}
@@ -21,12 +20,11 @@ use Rattle.skew.specs.Graph.{isReachable, hasPath}
 use Rattle.matching.specs.Stock.{greatest, leftOver, fitsLeftOver, markOf, marksFrom, marksOf}
 use Rattle.matching.specs.Matching.{FitsBelow, Matching, unlit, partner, litFits}
 use Rattle.matching.specs.DoubledTable.{doubledTable, isOuter, isInner, markBy, marksBy}
-use Rattle.matching.specs.Rotation.{Augments}
 use Rattle.matching.specs.Certificate.{Certificate}
 use Rattle.matching.proofs.Matchings.{fits-back, fits-low, list-matching, list-count, lit-count}
 use Rattle.matching.proofs.Greatest.{greatest-pairing, matching-bound, left-matching, fits-some, some-fits}
 use Rattle.matching.proofs.Certificates.{largest, left-is-outer}
-use Rattle.matching.proofs.Augmentation.{reachable-left, path-more}
+use Rattle.matching.proofs.Augmentation.{reachable-left}
 use Rattle.matching.proofs.Groups.{group}
 use Rattle.matching.proofs.Decomposition.{certificate}
 
@@ -111,18 +109,3 @@ module _ (n : ℕ) (fs : List Pair) (F : FitsBelow n fs) where
 
     pub no-path-marks : (f : ℕ → Bool) → ((v : ℕ) → v < 2 * suc n → f v ≡ isReachable (doubledTable n fs p) v) → marksOf n fs ≡ marksBy f (below n)
     no-path-marks f e = marks-by f e (below n) (λ k m. omega (arith, in-up 0 n k m))
-
-  -- ONE PAIR MORE for each path
-  pub augmented-pairs : (p q : ℕ → ℕ) → Matching fs p → Augments n fs p q → length (litFits q fs) ≡ suc (length (litFits p fs))
-  augmented-pairs p q M G = let c = G .count in omega (arith, lit-count n fs F p M, lit-count n fs F q (G .matching))
-
-  pub path-less : (p : ℕ → ℕ) → Matching fs p → hasPath (doubledTable n fs p) ≡ true → length (litFits p fs) < greatest fs
-  path-less p M e =
-      let r = path-more n fs F p M e in
-      omega (arith, augmented-pairs p (r .0) M (r .1), matching-bound n fs F (r .0) (r .1 .matching))
-
-  pub no-path-is : (p : ℕ → ℕ) → Matching fs p → (hasPath (doubledTable n fs p) ≡ false) ↔ (length (litFits p fs) ≡ greatest fs)
-  no-path-is p M = (
-    no-path-pairs p M,
-    λ e. by-test (hasPath (doubledTable n fs p)) (λ t. absurd (omega (arith, path-less p M t))) (λ t. t),
-  )
