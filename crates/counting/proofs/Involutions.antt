@@ -1,4 +1,6 @@
 -- A list without repeats that is closed under an involution without fixed points has even length. Assumes nothing.
+--   even-within      by induction on a bound of the length: an element and its image are taken out together
+--   even             so for every list
 use mathlib.Core.Path.{_≡_, refl, sym, ap, subst, _∙_}
 use mathlib.Core.Logic.{inl, inr, _≢_, ⊎-elim}
 use mathlib.Core.List.{List, [], _∷_, _++_}
@@ -9,7 +11,6 @@ use Rattle.counting.specs.Lists.{In, Distinct}
 use Rattle.counting.proofs.Membership.{in-left, in-right, in-append, in-split, in-middle}
 use Rattle.counting.proofs.NoRepeats.{distinct-middle}
 
--- by induction on a bound of the length: an element and its image are taken out together
 even-within : (f : ℕ → ℕ) (n : ℕ) (xs : List ℕ) → length xs ≤ n → Distinct xs → ((x : ℕ) → In x xs → In (f x) xs) →
     ((x : ℕ) → f (f x) ≡ x) → ((x : ℕ) → In x xs → f x ≢ x) → length xs % 2 ≡ 0
 even-within f zero [] l d c b nf = refl

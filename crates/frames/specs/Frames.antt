@@ -1,12 +1,27 @@
 -- Files of lines, a frame a line, and the questions put to a call (document 01, "Frames" and "Questions put to a call"; the definitions are
 -- document 03's). Assumes nothing: these are definitions.
---   linesOf, endsWhole, isFrame, isWholeFile     lines, and question 3
---   hexAt, kindOf                                numbers of hexadecimal digits
---   Form, graphForm, stockForm, ..               a kind of file: its header, body and end frames
---   hasHeader, hasBody, countAgrees              questions 4, 6 and 7
---   shapeFault                                   questions 2, 3, 4, then the answer to 5, then 6 and 7: the first answered no
---   pairsIn, numbersIn                           body frames as numbers
---   hexBytes, frame2, frame4, frame6, frameOf4   frames as they are written
+--   isIn a b x                                 x is a to b
+--   orElse n m, unless z n                     of two refusals the first, 0 being none; the refusal n, none where z is true
+--   withByte c ls, linesOf f                   a byte at the front of the first line; the lines of a file
+--   endsWhole f                                the last line is ended too
+--   isDigit c, isFrame l, isWholeFile f        question 3: of a byte, of a line, of a file
+--   digitOf c, hexFrom m l                     a digit's value; m with the digits of l behind it
+--   hexAt i n l, kindOf l                      the number in n digits from the i-th on; a frame's kind, in its first two
+--   Form                                       a kind of file: its header, body and end frames
+--   graphForm, stockForm                       graphs and stocks
+--   pathForm, barrierForm                      certificates: paths and barriers
+--   isFrameOf k n l                            l is of kind k, with n digits after it
+--   firstLine f, restLines f                   the first line; those after it
+--   lastLine f, bodyLines f                    the last of those; those between
+--   hasHeader k f                              question 4
+--   laterFit ks n ls, bodiesFit ks n ls        the lines are of the first of these kinds; of the first, then of the second
+--   hasBody k f, countAgrees f                 questions 6 and 7
+--   shapeFault k f z                           questions 2, 3, 4, then the answer to 5, then 6 and 7: the first answered no
+--   pairIn l, pairsIn k ls                     a body frame as two numbers; the frames of one kind
+--   numbersIn ls                               body frames as a number each
+--   digitByte d, hexBytes n x                  a digit as it is written; x in n digits
+--   frame2 k, frame4 k a, frame6 k a b         frames as they are written: the kind alone, with one number, with two
+--   frameOf4 k v                               and with one number in four digits
 use mathlib.Core.Bool.{Bool, true, false, _&&_, _||_}
 use mathlib.Core.List.{List, [], _∷_, _++_}
 use Prim.Native.Nat.{ℕ, zero, suc, _+_, _*_, _-_, _/_, _%_}

@@ -1,4 +1,13 @@
 -- Only one arc of the doubled table, by number, leads into a node 2k: from the source if k is unlit, else from its partner. Assumes nothing.
+--   None f xs, AtMostOne f xs                     none of the pairs passes a test; at most one, by number, does
+--   none-at, one-at, none-one                     the same by index; where none does, at most one does
+--   enters x                                      the arc leads into 2k
+--   Writes j                                      such an arc is written in the turn of camera j, the smaller of k and its partner
+--   writes-one                                    in one turn only
+--   writes-unlit, writes-partner, writes-self     by the arcs of a turn
+--   fit-none                                      none among the arcs of fits
+--   camera-none, camera-one                       none in turns of other cameras; one at most in all turns
+--   one-arc-in                                    so two arcs into 2k are the same
 use mathlib.Core.Path.{_≡_, refl, sym, ap, subst, _∙_}
 use mathlib.Core.Logic.{_⊎_, inl, inr}
 use mathlib.Core.Bool.{Bool, true, false}
@@ -19,7 +28,6 @@ use Rattle.matching.specs.Matching.{Matching}
 use Rattle.matching.specs.DoubledTable.{cameraArcs, fitArcs, doubledTable}
 use Rattle.matching.proofs.DoubledTable.{by-camera}
 
--- none of the pairs passes a test; at most one, by number, does
 abbrev None : (Pair → Bool) → List Pair → Type 0
 None f [] = Unit {0}
 None f (x ∷ xs) = (f x ≡ false) × None f xs

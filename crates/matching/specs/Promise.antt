@@ -1,8 +1,12 @@
 -- What is promised of every stock that questions 9 and 11 to 14 accept (document 01, "Questions put to a call"; document 03's promises, over stocks
 -- instead of files). Each promise is a type; a proof of the type is the theorem. Assumes nothing.
---   WellFormedStock      what those questions settle
---   GreatestIs           the greatest number of pairs is the most that a pairing has, and some plan exists
---   MarksAre             a mark, by largest pairings
+--   pairNamed n x          both numbers of the pair are below n
+--   WellFormedStock s      what those questions settle
+--   GreatestIs             the greatest number of pairs is the most that a pairing has, and some plan exists
+--   LeftBySome fs u        some largest pairing leaves the camera over
+--   joins u v x            the pair is of these two cameras
+--   FitsSomeLeft fs u      the camera fits one that some largest pairing leaves over
+--   MarksAre               a mark, by largest pairings
 use mathlib.Core.Path.{_≡_}
 use mathlib.Core.Logic.{_↔_}
 use mathlib.Core.Bool.{Bool, true, false, _&&_, _||_}

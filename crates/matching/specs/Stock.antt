@@ -1,11 +1,19 @@
 -- Stocks, pairings, the greatest number of pairs, marks and plans (document 01, "Stocks"; the definitions are document 03's). A fit is an edge,
 -- a pairing a matching, and the marks are the Gallai-Edmonds decomposition. Assumes nothing: these are definitions.
---   Stock                          cameras, fits and lit pairs
---   isPairing                      fits, no camera in two
---   allPairings, greatest          every pairing of some fits; the most pairs one has
---   leftOver, markOf, marksOf      marks, by all largest pairings
---   pairsRise                      smaller camera first, rising: by first camera, then by second
---   isPlan                         a largest pairing that keeps lit cameras lit; the lit pairs if they are largest
+--   Stock                                      cameras, fits and lit pairs
+--   samePair x y, samePairs xs ys              the same pair; the same pairs in the same order
+--   hasPair xs x                               the pair is one of these
+--   touches x u, isIncluded xs u               the camera is in the pair; in one of the pairs
+--   meets x y, noneShared xs                   two pairs have a camera in common; no two of them do
+--   isPairing fs ps                            fits, no camera in two
+--   withFirst x pss, allPairings fs            those pairings to which x can be added, with x; every pairing of the fits
+--   mostOf pss, greatest fs                    the most pairs that one of these has; that a pairing of the fits has
+--   leftOver fs u, fitsLeftOver fs u           some largest pairing leaves the camera over; it fits one that is so left over
+--   markOf fs u                                a camera's mark: 0 left over by some largest pairing, 1 fits such a camera, 2 neither
+--   marksFrom fs us, marksOf n fs              the marks of some cameras; of all
+--   pairBefore x y, pairsRise xs               by first camera, then by second; smaller camera first, rising so
+--   keepsLit s ps                              every lit camera is still lit
+--   isPlan s ps                                a largest pairing that keeps lit cameras lit; the lit pairs if they are largest
 use mathlib.Core.Bool.{Bool, true, false, _&&_, _||_, not}
 use mathlib.Core.List.{List, [], _∷_, _++_}
 use Prim.Native.Nat.{ℕ}

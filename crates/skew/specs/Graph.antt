@@ -1,11 +1,26 @@
 -- Doubled (skew-symmetric) graphs, regular paths, barriers and the canonical barrier (document 01, "The graph" and "The barrier"; document 000,
 -- section 2; the definitions are document 03's). Assumes nothing: these are definitions.
---   Graph, mate, nodes, arcAt, matesFit          graphs by numbered nodes and arcs
---   nodesAlong, isJoined, noMates, endOf         a run of arcs
---   isRegular, isWanted                          regular paths from the source; to the source's mate
---   isReachable, hasPath                         some regular path ends there, found by trial
---   classAt, arcFits, entriesInto, isBarrier     barriers, by a class for each node
---   inX, partOf, partNumber, classOf, canonical  the canonical barrier
+--   Graph                                      mate pairs of nodes, the source, and arcs in file order
+--   mate v, nodes g, arcAt g i                 the mate of a node or an arc; how many nodes there are; the arc i
+--   areMates x y, matesFit xs                  two arcs are mates; each odd-numbered arc is the mate of the one before
+--   nodesAlong g v p, endOf g v p              the nodes along the arcs p from v; the last of them
+--   isJoined g v p, noMates p                  arcs of g, each starting where the one before ended, the first at v; no arc with its mate
+--   isRegular g p, isWanted g p                a regular path from the source; one to the source's mate
+--   reachesFrom n g v w ss us                  w is reached from v, by trial, over n arcs at most, without the nodes ss and the mates of the arcs us
+--   isReachable g w, hasPath g                 some regular path from the source ends at w; at the source's mate
+--   classAt cs v                               a node's class: 0 for M, 1 for A, 2 for A', 3 for X1 and so on
+--   isX c, isXM c                              the class of an Xi; of an Xi or M
+--   largestOf xs                               the largest element
+--   mateClass c, matesAgree cs v               the class that mates have; v's mate has it
+--   entriesInto cs c xs                        how many arcs lead from A into class c
+--   arcFits cs x                               no arc between two different Xi, between an Xi and M, or from A into A' or M
+--   isBarrier g cs                             the classes are a barrier
+--   inX g v, xNodes g                          a node and its mate are reachable; all such nodes
+--   joinsIn g v w                              an arc joins the two nodes, either way
+--   partOnce g ms vs, partBy n g ms vs         vs with the members of ms that are joined to it; the same n times over
+--   partOf g v, leastOf a xs                   the connected part of X with v; the least of a and xs
+--   isFirst g v, partNumber g v                v is the least of its part; how many parts begin before that of v
+--   classOf g v, classesFrom g vs, canonical g      the canonical barrier: of a node, of some, of all in order
 use mathlib.Core.Bool.{Bool, true, _&&_, _||_, not}
 use mathlib.Core.List.{List, [], _∷_}
 use Prim.Native.Nat.{ℕ, zero, suc, _+_, _*_, _-_, _%_}
