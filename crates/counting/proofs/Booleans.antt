@@ -1,4 +1,4 @@
--- Tests, which are Booleans, taken apart and put together. Assumes nothing.
+-- Tests, which are Booleans, taken apart and put together.
 --   and-left, and-right                         what a true conjunction says of its parts
 --   and-two, and-three, and-four, and-five      the same of all parts at once
 --   and-both, or-right, or-cases                how true tests are put together, and a true `||` taken apart

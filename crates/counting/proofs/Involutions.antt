@@ -1,4 +1,4 @@
--- A list without repeats that is closed under an involution without fixed points has even length. Assumes nothing.
+-- A list without repeats that is closed under an involution without fixed points has even length.
 --   even-within      by induction on a bound of the length: an element and its image are taken out together
 --   even             so for every list
 use mathlib.Core.Path.{_≡_, refl, sym, ap, subst, _∙_}

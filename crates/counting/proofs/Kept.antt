@@ -1,4 +1,4 @@
--- The elements that pass a test. Assumes nothing.
+-- The elements that pass a test.
 --   in-keep, keep-in     an element is kept exactly if it passes
 --   keep-distinct        no repeats come about
 --   keep-or              of two tests that exclude each other: the numbers kept add up

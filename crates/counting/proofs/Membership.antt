@@ -1,4 +1,4 @@
--- Membership in a list, and the tests that say the same. Assumes nothing.
+-- Membership in a list, and the tests that say the same.
 --   in-left, in-right, in-append      in xs ++ ys exactly if in xs or in ys
 --   in-split, in-middle               an element cuts its list in two; a list with one element more
 --   in-getD, getD-in                  an element stands at some index, and what stands there is one

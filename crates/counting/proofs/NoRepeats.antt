@@ -1,4 +1,4 @@
--- Lists in which no number stands twice. Assumes nothing.
+-- Lists in which no number stands twice.
 --   distinct-append                               two such lists with no common element, joined
 --   distinct-middle                               one element taken out
 --   none-twice-distinct, distinct-none-twice      the test noneTwice

@@ -1,4 +1,4 @@
--- The elements of a list without repeats that pass a test, numbered by how many smaller ones pass. Assumes nothing.
+-- The elements of a list without repeats that pass a test, numbered by how many smaller ones pass.
 --   number t            how many elements below t pass
 --   number-le, -lt      it rises, and at each element that passes
 --   number-suc, -zero   one step, and the start

@@ -1,4 +1,4 @@
--- Lists without repeats compared by length. Assumes nothing.
+-- Lists without repeats compared by length.
 --   distinct-within           within another list: no longer than it
 --   distinct-image            the image of such a list under an injection
 --   injection                 an injection between lists bounds lengths

@@ -1,4 +1,4 @@
--- The numbers below a bound. Assumes nothing.
+-- The numbers below a bound.
 --   up-in, in-up, length-up, distinct-up      upFrom a n: from a on, below a + n, n of them, no repeats
 --   up-cons, up-none                          what is left below a bound: the first and the rest, or nothing
 --   pigeonhole                                numbers below n without repeats: at most n of them

@@ -1,4 +1,4 @@
--- A list reversed with a map at each element. Assumes nothing.
+-- A list reversed with a map at each element.
 --   in-reverse, reverse-in      its elements are the images of the list's
 --   reverse-append              of two lists joined
 --   reverse-twice               an involution, reversed twice, gives the list back

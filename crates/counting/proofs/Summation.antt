@@ -1,4 +1,4 @@
--- Sums over the numbers below a bound. Assumes nothing.
+-- Sums over the numbers below a bound.
 --   sum-le, sum-lt      compared term by term
 use mathlib.Core.Path.{ap}
 use mathlib.Core.Logic.{⊎-elim}

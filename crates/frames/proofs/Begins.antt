@@ -1,4 +1,4 @@
--- Files that begin with a text. Assumes nothing.
+-- Files that begin with a text.
 --   begins-short                 a file shorter than the text does not
 --   begins-step, begins-other    compared byte by byte: an equal byte, another byte
 --   begins-done                  all bytes of the text compared

@@ -1,4 +1,4 @@
--- Questions 6 and 7, line by line: the body frames in the order of their kinds, then the end frame. Assumes nothing.
+-- Questions 6 and 7, line by line: the body frames in the order of their kinds, then the end frame.
 --   frame-kind, frame-length, frame-no, frame-by, frame-size      a frame of a kind, as a line and as a part of the file
 --   fit-bodies, first-kind, last-kind                             one kind of body line is that kind twice
 --   fit-runs                                                      lines that fit are a run of the first kind, then one of the second

@@ -1,4 +1,4 @@
--- Questions 2, 3 and 4, and the first line. Assumes nothing.
+-- Questions 2, 3 and 4, and the first line.
 --   rest-lines, first-line         the lines after the first, and the first as a part of the file
 --   first-number                   a number of the first line, at its place in the file
 --   past-short, past-whole         where none of the three is answered no: what 2 and 3 say

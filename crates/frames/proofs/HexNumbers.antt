@@ -1,4 +1,4 @@
--- Numbers of digits, in a line and at their place in the file. Assumes nothing.
+-- Numbers of digits, in a line and at their place in the file.
 --   hex-two, hex-four    two digits from their values, four from two numbers of two
 --   hex-part             a number of a line is the number at its place in the file
 --   digit-small          the value of a digit is below 16

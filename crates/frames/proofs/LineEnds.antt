@@ -1,4 +1,4 @@
--- What ends a line. Assumes nothing. Only these laws know which bytes do; all others stand on them.
+-- What ends a line. Only these laws know which bytes do; all others stand on them.
 --   end-none, end-feed, end-other    none past the file's end, one byte at a line feed, none at another byte
 --   end-fits, end-within             a line end stands within the file
 --   end-digit                        a digit ends no line

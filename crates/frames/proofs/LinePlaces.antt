@@ -1,4 +1,4 @@
--- Lines by their places in a file. Assumes nothing.
+-- Lines by their places in a file.
 --   line-here                                     what a place, the line's length and its line end make a LineAt
 --   SameLine, same-..                             no line end stands from one place up to another; how a reader moves on
 --   lines-here, lines-some, last-here             the lines from a place on: the line there, and those from the next on

@@ -1,5 +1,4 @@
 -- Questions put one after the other: the number of the first answered no, 0 where none is (document 01, "Questions put to a call").
--- Assumes nothing.
 --   or-stop, or-go        an earlier refusal stands; where there is none, the later one
 --   or-assoc              a chain of chains is one chain
 --   or-none               a chain that refuses nothing: no part of it does

@@ -1,4 +1,4 @@
--- Runs of lines of one kind (specs/Stores). Assumes nothing.
+-- Runs of lines of one kind (specs/Stores).
 --   run-kept, past-kept          a line of the kind at the front: the run, and what stands past it
 --   run-none, past-none          a line of another kind at the front
 --   run-nil, past-nil            no line

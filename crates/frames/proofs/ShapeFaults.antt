@@ -1,4 +1,4 @@
--- Questions 2 to 7 together, and what is known of a file that passes them. Assumes nothing.
+-- Questions 2 to 7 together, and what is known of a file that passes them.
 --   shape-chain                               shapeFault as one chain: questions 2 to 4, the answer to 5, questions 6 and 7
 --   fits-free                                 where 2, 3 or 4 is answered no, the answer to 5 does not matter
 --   shaped                                    what is known where no question is answered no

@@ -1,5 +1,4 @@
 -- What storing the runs of a file gives, where questions 2 to 7 refuse nothing: document 03's pairs and numbers of its body lines.
--- Assumes nothing.
 --   lines-after                     from the second line on: the body lines of the first kind, those of the last, the end frame
 --   body-storable                   these lines can be stored
 --   body-few                        how many body lines there are at most, by the file's length

@@ -1,4 +1,4 @@
--- Runs of body frames, stored line by line. Assumes nothing.
+-- Runs of body frames, stored line by line.
 --   column from size lines           one number of each line
 --   Passing kind g at i n            of the run that begins at `at`, n lines are passed, and i is the place reached
 --   Filling from size .. slice       with what is left of the run stored behind them, the slice is as the whole run stored would leave it

@@ -1,4 +1,4 @@
--- Question 3, line by line: is a file whole lines, each a positive even number of digits? Assumes nothing.
+-- Question 3, line by line: is a file whole lines, each a positive even number of digits?
 --   DigitsUpTo f at i                        digits of one line stand from `at` up to i
 --   digits-start, digits-next                how a reader moves on
 --   whole-next                               what is left past a line that is whole

@@ -1,4 +1,4 @@
--- Runs of bytes written one behind the other. Assumes nothing.
+-- Runs of bytes written one behind the other.
 --   sets-over                           a run of stores at the front: what is stored, then what stood behind it (document 03's `over`)
 --   written-rest, written-then          the same of what two calls wrote
 --   written-over                        the same of a text written at the front

@@ -1,5 +1,5 @@
 -- Files of lines, a frame a line, and the questions put to a call (document 01, "Frames" and "Questions put to a call"; the definitions are
--- document 03's). Assumes nothing: these are definitions.
+-- document 03's).
 --   isIn a b x                                 x is a to b
 --   orElse n m, unless z n                     of two refusals the first, 0 being none; the refusal n, none where z is true
 --   withByte c ls, linesOf f                   a byte at the front of the first line; the lines of a file

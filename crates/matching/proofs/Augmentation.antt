@@ -1,5 +1,5 @@
 -- A regular path of the doubled table is a run of rotations: an augmenting path. A camera whose node 2k+1 is still ahead has its old
--- partner: that is the whole invariant. Assumes nothing.
+-- partner: that is the whole invariant.
 --   path-leaves-over, reachable-left     to 2k: a matching with as many pairs that leaves k over
 --   path-augments, path-more             to the source's mate: one with one pair more that keeps every lit camera lit
 --   path-rotates                         each rotation of such a path is between different cameras below n

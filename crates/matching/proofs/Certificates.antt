@@ -1,4 +1,4 @@
--- What a certificate for p gives, by counting (Gallai and Edmonds). Assumes nothing.
+-- What a certificate for p gives, by counting (Gallai and Edmonds).
 --   representatives-count                             as many as the cameras that p leaves over and the inner ones: p itself is the bijection
 --   group-odd                                         p pairs a group without its representative
 --   exposed, exposed-is                               of any matching q: a camera of the group that q leaves over or pairs with an inner one

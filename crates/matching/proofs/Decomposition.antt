@@ -1,5 +1,5 @@
 -- The doubled table of p without a path gives the Gallai-Edmonds certificate: outer cameras are those with 2k reachable, inner ones those with only 2k+1
--- reachable, and groups are the parts of the canonical barrier. Each clause is read off the barrier's arcs. Assumes nothing.
+-- reachable, and groups are the parts of the canonical barrier. Each clause is read off the barrier's arcs.
 --   certificate      the certificate that p is largest
 use mathlib.Core.Path.{_≡_, sym, ap, subst, _∙_}
 use mathlib.Core.Logic.{_⊎_, inl, inr, _≢_, ⊎-elim}

@@ -1,4 +1,4 @@
--- The doubled table's arcs. Assumes nothing.
+-- The doubled table's arcs.
 --   mate-even, mate-odd                      a camera's two nodes are mates
 --   camera-arcs-few, fit-arcs-few            at most two arcs for a camera, and for a fit
 --   camera-arcs-rest                         the arcs of cameras stand before the rest

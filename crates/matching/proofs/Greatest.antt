@@ -1,5 +1,5 @@
 -- All pairings of the fits are tried: `greatest` bounds every pairing in whatever order, and is one's length; `leftOver` is told by largest pairings,
--- as lists or as involutions. Assumes nothing.
+-- as lists or as involutions.
 --   tried-pairing, kept-tried               what is tried is a pairing; every pairing in the order of the fits is tried
 --   matching-bound, greatest-bound          no pairing has more pairs
 --   greatest-pairing                        some pairing has as many

@@ -1,5 +1,5 @@
 -- The doubled table of p without a path: each Xi of its canonical barrier is entered over an arc to a node 2r, never to a node 2k+1; camera r represents
--- the cameras of Xi. Assumes nothing.
+-- the cameras of Xi.
 --   camera-classes                   the classes of a camera's two nodes
 --   no-odd-entry                     no entry leads to a node 2k+1
 --   group, group-self, group-same    a camera's representative: itself for 2k in A, else where the entry of its Xi leads

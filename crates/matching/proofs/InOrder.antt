@@ -1,4 +1,4 @@
--- The pairs of a matching camera by camera, which rise by themselves. Assumes nothing.
+-- The pairs of a matching camera by camera, which rise by themselves.
 --   in-pairs, pairs-in      an element is a camera with its larger partner
 --   pairs-lit               they are the fits that are lit, in the order of the fits
 --   list-lit                the pairs of a rising list come back as they were

@@ -1,5 +1,4 @@
 -- A matching whose doubled table has no path is largest, and the reachable nodes are the marks: 2k reachable is 00, only 2k+1 is 01, neither is 02.
--- Assumes nothing.
 --   no-path-largest, no-path-greatest, no-path-pairs     it leaves over no more than any other; it has the greatest number of pairs
 --   outer-left, left-outer                               outer cameras are those that some largest pairing leaves over
 --   no-path-mark, no-path-marks                          a camera's mark; all marks

@@ -1,4 +1,4 @@
--- A camera's mark, by largest pairings. Assumes nothing.
+-- A camera's mark, by largest pairings.
 --   mark-zero      00: some largest pairing leaves it over
 --   mark-one       01: none does, and it fits a camera that one leaves over
 use mathlib.Core.Path.{_≡_, refl, sym, subst, _∙_}

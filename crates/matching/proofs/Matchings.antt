@@ -1,4 +1,4 @@
--- A pairing as an involution and as a list of fits: the passage both ways, with the count 2 · pairs + unlit ≡ cameras. Assumes nothing.
+-- A pairing as an involution and as a list of fits: the passage both ways, with the count 2 · pairs + unlit ≡ cameras.
 --   fits-back, fits-low                              fitting is mutual, between different cameras below n
 --   matching-low, matching-injective                 an involution's partner of a camera
 --   unlit-in, in-unlit, unlit-distinct               the cameras left over

@@ -1,4 +1,4 @@
--- Only one arc of the doubled table, by number, leads into a node 2k: from the source if k is unlit, else from its partner. Assumes nothing.
+-- Only one arc of the doubled table, by number, leads into a node 2k: from the source if k is unlit, else from its partner.
 --   None f xs, AtMostOne f xs                     none of the pairs passes a test; at most one, by number, does
 --   none-at, one-at, none-one                     the same by index; where none does, at most one does
 --   enters x                                      the arc leads into 2k

@@ -1,4 +1,4 @@
--- Lists of pairs, and the tests of Stock that speak of them. Assumes nothing.
+-- Lists of pairs, and the tests of Stock that speak of them.
 --   same-pair                             pairs with the same numbers are one
 --   has-pair-in, in-has-pair              hasPair: an element
 --   in-ends, ends-in, length-ends         ends: the cameras of the elements

@@ -1,4 +1,4 @@
--- Plans: from the lit pairs by augmenting paths, until there is none. Assumes nothing.
+-- Plans: from the lit pairs by augmenting paths, until there is none.
 --   largest-plan           the pairs in order of a matching without a path that keeps the lit cameras lit, unless the lit pairs are largest: a plan
 --   lit-plan               the lit pairs, if they are largest: a plan
 --   augmented-plan         either, told by whether the pairs have grown: what a loop of searches ends with

@@ -1,4 +1,4 @@
--- Rising lists of pairs. Assumes nothing.
+-- Rising lists of pairs.
 --   rise-rising, rising-rise      the test pairsRise
 --   rising-ordered                the smaller camera first
 --   keep-rising                   what a test keeps rises

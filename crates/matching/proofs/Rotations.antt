@@ -1,4 +1,4 @@
--- One rotation of a matching. Assumes nothing.
+-- One rotation of a matching.
 --   rotate-first, -second, -third, -other     the partner of u, of v, of v's old partner, of any other camera
 --   rotate-matching                           the result is a matching
 --   rotate-unlit                              what it leaves over

@@ -1,4 +1,4 @@
--- Stores into a row of partners. Assumes nothing.
+-- Stores into a row of partners.
 --   row-partner                       a camera's partner, read with any default
 --   length-rotate, length-light       the row keeps its length
 --   rotate-row                        three stores are a rotation

@@ -1,5 +1,5 @@
 -- The Gallai-Edmonds decomposition as a certificate that a matching p is largest: D, the outer cameras, fall into groups of odd size, each with a
--- representative; A, the inner cameras, are all that the cameras of a group fit outside it. Assumes nothing: these are definitions.
+-- representative; A, the inner cameras, are all that the cameras of a group fit outside it.
 --   Certificate n fs p D A group      what a doubled table without an augmenting path gives
 --   those n f                         the cameras that pass a test
 --   isRepresentative                  one camera of each group

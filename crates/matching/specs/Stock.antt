@@ -1,5 +1,5 @@
 -- Stocks, pairings, the greatest number of pairs, marks and plans (document 01, "Stocks"; the definitions are document 03's). A fit is an edge,
--- a pairing a matching, and the marks are the Gallai-Edmonds decomposition. Assumes nothing: these are definitions.
+-- a pairing a matching, and the marks are the Gallai-Edmonds decomposition.
 --   Stock                                      cameras, fits and lit pairs
 --   samePair x y, samePairs xs ys              the same pair; the same pairs in the same order
 --   hasPair xs x                               the pair is one of these

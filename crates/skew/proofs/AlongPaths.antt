@@ -1,4 +1,4 @@
--- Regular paths from the source: their nodes are reachable, and they are met once. Assumes nothing.
+-- Regular paths from the source: their nodes are reachable, and they are met once.
 --   PathTo v p                          p is a regular path from the source to v
 --   reachable-path, path-reachable      reachable nodes are the ends of regular paths
 --   arrives-by, leaves-by               the arc by which a path comes to a node, and the arc by which it goes on

@@ -1,4 +1,4 @@
--- A barrier's classes as a list: what the tests of Graph say of them. Assumes nothing.
+-- A barrier's classes as a list: what the tests of Graph say of them.
 --   fit-from-A, fit-from-X                    where an arc out of A or out of an Xi may lead
 --   fit-X-X, fit-X-A, fit-X-A′, fit-A-X       arcs that fit
 --   entry-counted, entry-unique, sole-entry   exactly one entry is counted where there is exactly one

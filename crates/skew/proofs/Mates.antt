@@ -1,4 +1,4 @@
--- Mates of nodes and of arcs: the lowest bit flipped. Assumes nothing.
+-- Mates of nodes and of arcs: the lowest bit flipped.
 --   mate-is                                    the mate by arithmetic
 --   mate-mate, mate-other, mate-inj            an involution without fixed points
 --   mate-below                                 it keeps an even bound

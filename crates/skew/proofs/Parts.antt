@@ -1,4 +1,4 @@
--- Connected parts as `partBy` finds them, round by round. Assumes nothing.
+-- Connected parts as `partBy` finds them, round by round.
 --   adjacent-head, adjacent-tail, adjacent-elim      adjacent nodes are the ends of an arc
 --   part-all                                         what a node passes to its neighbours among the members holds in its part
 --   part-closed                                      as many rounds as members: no neighbour is left out

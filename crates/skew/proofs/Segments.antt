@@ -1,4 +1,4 @@
--- The paths that labels give (SEG laws). Assumes nothing.
+-- The paths that labels give (SEG laws).
 --   seg-unique              there is one at most
 --   seg-step                one step, with its arc and its nodes named
 --   seg-joins               it leads from its start to its end

@@ -1,4 +1,4 @@
--- Lists of arcs in which none stands with its mate. Assumes nothing.
+-- Lists of arcs in which none stands with its mate.
 --   no-mates-unmated, unmated-no-mates      the test noMates
 --   unmated-reverse                         all mated and reversed
 --   unmated-append                          two such lists, none of the second the mate of one of the first

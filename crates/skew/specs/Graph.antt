@@ -1,5 +1,5 @@
 -- Doubled (skew-symmetric) graphs, regular paths, barriers and the canonical barrier (document 01, "The graph" and "The barrier"; document 000,
--- section 2; the definitions are document 03's). Assumes nothing: these are definitions.
+-- section 2; the definitions are document 03's).
 --   Graph                                      mate pairs of nodes, the source, and arcs in file order
 --   mate v, nodes g, arcAt g i                 the mate of a node or an arc; how many nodes there are; the arc i
 --   areMates x y, matesFit xs                  two arcs are mates; each odd-numbered arc is the mate of the one before
