@@ -25,16 +25,16 @@ use Rattle.files.proofs.AcceptedFiles.{accepted-graph, accepted-stock, stock-fe
 use Rattle.files.proofs.SheetBytes.{sheets-alike, alike-sheets, sheet-number}
 
 pub reaches-by-paths : ReachesByPaths
-reaches-by-paths f w a = skew.reaches-by-paths (graphIn f) (accepted-graph f (a .1)) w
+reaches-by-paths f w e = skew.reaches-by-paths (graphIn f) (accepted-graph f e) w
 
 pub path-or-barrier : PathOrBarrier
-path-or-barrier f a = skew.path-or-barrier (graphIn f) (accepted-graph f (a .1))
+path-or-barrier f e = skew.path-or-barrier (graphIn f) (accepted-graph f e)
 
 pub greatest-is : GreatestIs
-greatest-is f ps b e = matching.greatest-is (stockIn f) ps (accepted-stock f e)
+greatest-is f ps e = matching.greatest-is (stockIn f) ps (accepted-stock f e)
 
 pub marks-are : MarksAre
-marks-are f u b e h = matching.marks-are (stockIn f) u (accepted-stock f e) h
+marks-are f u e h = matching.marks-are (stockIn f) u (accepted-stock f e) h
 
 -- THE SHEET'S BYTES
 greatest-low : (f : List ℕ) → stockFault f ≡ 0 → greatest (stockIn f .fits) < 256
@@ -51,7 +51,7 @@ sheet-in : (f o : List ℕ) → sheetFault f o ≡ 0 → sheetIn f o ≡ sheetOf
 sheet-in f o e = rw (eq-eqb (sheetFault f o) 0 e) (take-append-seam (sheetOfFile f) (drop (length (sheetOfFile f)) o))
 
 pub sheets-tell : SheetsTell
-sheets-tell f g o p b c d e =
+sheets-tell f g o p d e =
     let x = sheet-in f o d in
     let y = sheet-in g p e in (
       (

@@ -4,8 +4,10 @@
 --   GraphCalls         what the graph call answers, by value
 --   StockCalls         what the stock calls answer, each in one record
 --   Promise            what is promised of every file: demands 2 and 3, and the marked set
+--   BytePromise        five of them as document 03 states them
 pub mod Entry
 pub mod Verdicts
 pub mod GraphCalls
 pub mod StockCalls
 pub mod Promise
+pub mod BytePromise

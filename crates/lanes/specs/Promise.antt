@@ -1,5 +1,6 @@
--- What is promised of every graph file and of every two stock files. Each promise is a type; a term of the type is the theorem's proof (the
--- definitions are document 03's, with SheetsByFits and SheetNumber).
+-- What is promised of every graph file and of every two stock files. Each promise is a type; a term of the type is the theorem's proof. The
+-- first five are document 03's without its premise that a file's elements are bytes (BytePromise has them as it states them); SheetsByFits and
+-- SheetNumber are added.
 --   ReachesByPaths    demand 2: a node is reachable exactly if a regular path from the source ends there
 --   PathOrBarrier     demand 2: a path and a barrier exclude each other, and without a path the canonical one is a barrier
 --   GreatestIs        demand 3: the greatest number of pairs, by all pairings of the file's fits; and there is a plan
@@ -10,10 +11,9 @@
 --   Marked            G1 to G5 and S1 to S7
 use mathlib.Core.Path.{_≡_}
 use mathlib.Core.Logic.{_↔_}
-use mathlib.Core.Bool.{Bool, true, false, _&&_}
+use mathlib.Core.Bool.{true, false}
 use mathlib.Core.List.{List, [], _∷_}
 use Prim.Native.Nat.{ℕ, _≤_, _<_}
-use lib.Dec.{leb}
 use lib.ListN.{length, take}
 use Rattle.counting.specs.Pairs.{Pair, pair}
 use Rattle.frames.specs.Frames.{hexAt}
@@ -25,28 +25,21 @@ use Rattle.files.specs.GraphFile.{graphIn, graphFault}
 use Rattle.files.specs.StockFile.{stockIn, stockFault, alike}
 use Rattle.lanes.specs.Entry.{sheetOfFile, sheetLeaves, sheetFault}
 
-unfoldable pub areBytes : List ℕ → Bool
-areBytes [] = true
-areBytes (b ∷ bs) = leb b 255 && areBytes bs
-
 -- DEMAND 2
-abbrev pub IsGraphFile : (file : List ℕ) → Type 0
-IsGraphFile f = (areBytes f ≡ true) × (graphFault f ≡ 0)
-
 abbrev pub ReachesByPaths : Type 0
 ReachesByPaths =
-    (f : List ℕ) (w : ℕ) → IsGraphFile f → (isReachable (graphIn f) w ≡ true) ↔ SomePath (graphIn f) w
+    (f : List ℕ) (w : ℕ) → graphFault f ≡ 0 → (isReachable (graphIn f) w ≡ true) ↔ SomePath (graphIn f) w
 
 abbrev pub PathOrBarrier : Type 0
 PathOrBarrier =
-    (f : List ℕ) → IsGraphFile f →
+    (f : List ℕ) → graphFault f ≡ 0 →
     (hasPath (graphIn f) ≡ false → isBarrier (graphIn f) (canonical (graphIn f)) ≡ true) ×
     ((is cs : List ℕ) → isWanted (graphIn f) is ≡ true → isBarrier (graphIn f) cs ≡ false)
 
 -- the greatest number of pairs, and some plan for every stock
 abbrev pub GreatestIs : Type 0
 GreatestIs =
-    (f : List ℕ) (ps : List Pair) → areBytes f ≡ true → stockFault f ≡ 0 →
+    (f : List ℕ) (ps : List Pair) → stockFault f ≡ 0 →
     (isPairing (stockIn f .fits) ps ≡ true → length ps ≤ greatest (stockIn f .fits)) ×
     ((qs : List Pair) × ((isPairing (stockIn f .fits) qs ≡ true) × (length qs ≡ greatest (stockIn f .fits)))) ×
     ((qs : List Pair) × (isPlan (stockIn f) qs ≡ true))
@@ -54,7 +47,7 @@ GreatestIs =
 -- a mark, by largest pairings
 abbrev pub MarksAre : Type 0
 MarksAre =
-    (f : List ℕ) (u : ℕ) → areBytes f ≡ true → stockFault f ≡ 0 → u < stockIn f .cameras →
+    (f : List ℕ) (u : ℕ) → stockFault f ≡ 0 → u < stockIn f .cameras →
     ((markOf (stockIn f .fits) u ≡ 0) ↔ LeftBySome (stockIn f .fits) u) ×
     ((markOf (stockIn f .fits) u ≡ 1) ↔
     ((LeftBySome (stockIn f .fits) u → true ≡ false) × FitsSomeLeft (stockIn f .fits) u))
@@ -65,7 +58,7 @@ sheetIn f o = take (length (sheetOfFile f)) (sheetLeaves f o)
 
 abbrev pub SheetsTell : Type 0
 SheetsTell =
-    (f g o p : List ℕ) → areBytes f ≡ true → areBytes g ≡ true → sheetFault f o ≡ 0 → sheetFault g p ≡ 0 →
+    (f g o p : List ℕ) → sheetFault f o ≡ 0 → sheetFault g p ≡ 0 →
     ((sheetIn f o ≡ sheetIn g p) ↔ (alike (stockIn f) (stockIn g) ≡ true)) × (sheetIn f o ≡ sheetOfFile f)
 
 abbrev pub SheetsByFits : Type 0

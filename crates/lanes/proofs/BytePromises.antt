@@ -1,0 +1,19 @@
+-- Document 03's five promises, of files of bytes: each is one of Promises with a premise more.
+--   reaches-by-paths, path-or-barrier, greatest-is, marks-are, sheets-tell    demands 2 and 3
+use Rattle.lanes.specs.BytePromise.{ReachesByPaths, PathOrBarrier, GreatestIs, MarksAre, SheetsTell}
+use Rattle.lanes.proofs.Promises as promises
+
+pub reaches-by-paths : ReachesByPaths
+reaches-by-paths f w a = promises.reaches-by-paths f w (a .1)
+
+pub path-or-barrier : PathOrBarrier
+path-or-barrier f a = promises.path-or-barrier f (a .1)
+
+pub greatest-is : GreatestIs
+greatest-is f ps b e = promises.greatest-is f ps e
+
+pub marks-are : MarksAre
+marks-are f u b e h = promises.marks-are f u e h
+
+pub sheets-tell : SheetsTell
+sheets-tell f g o p b c d e = promises.sheets-tell f g o p d e

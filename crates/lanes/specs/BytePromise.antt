@@ -1,0 +1,56 @@
+-- Five promises as document 03 states them: of files whose elements are bytes. Promise says each of them, under the same name, of every file.
+--   areBytes           every element is a byte
+--   IsGraphFile        bytes that the questions of a graph file accept
+--   ReachesByPaths, PathOrBarrier, GreatestIs, MarksAre, SheetsTell    demands 2 and 3, of files of bytes
+use mathlib.Core.Path.{_≡_}
+use mathlib.Core.Logic.{_↔_}
+use mathlib.Core.Bool.{Bool, true, false, _&&_}
+use mathlib.Core.List.{List, [], _∷_}
+use Prim.Native.Nat.{ℕ, _≤_, _<_}
+use lib.Dec.{leb}
+use lib.ListN.{length}
+use Rattle.counting.specs.Pairs.{Pair}
+use Rattle.skew.specs.Graph.{isWanted, isReachable, hasPath, isBarrier, canonical}
+use Rattle.skew.specs.Promise.{SomePath}
+use Rattle.matching.specs.Promise.{LeftBySome, FitsSomeLeft}
+use Rattle.matching.specs.Stock.{isPairing, greatest, markOf, isPlan}
+use Rattle.files.specs.GraphFile.{graphIn, graphFault}
+use Rattle.files.specs.StockFile.{stockIn, stockFault, alike}
+use Rattle.lanes.specs.Entry.{sheetOfFile, sheetFault}
+use Rattle.lanes.specs.Promise.{sheetIn}
+
+unfoldable pub areBytes : List ℕ → Bool
+areBytes [] = true
+areBytes (b ∷ bs) = leb b 255 && areBytes bs
+
+abbrev pub IsGraphFile : (file : List ℕ) → Type 0
+IsGraphFile f = (areBytes f ≡ true) × (graphFault f ≡ 0)
+
+abbrev pub ReachesByPaths : Type 0
+ReachesByPaths =
+    (f : List ℕ) (w : ℕ) → IsGraphFile f → (isReachable (graphIn f) w ≡ true) ↔ SomePath (graphIn f) w
+
+abbrev pub PathOrBarrier : Type 0
+PathOrBarrier =
+    (f : List ℕ) → IsGraphFile f →
+    (hasPath (graphIn f) ≡ false → isBarrier (graphIn f) (canonical (graphIn f)) ≡ true) ×
+    ((is cs : List ℕ) → isWanted (graphIn f) is ≡ true → isBarrier (graphIn f) cs ≡ false)
+
+abbrev pub GreatestIs : Type 0
+GreatestIs =
+    (f : List ℕ) (ps : List Pair) → areBytes f ≡ true → stockFault f ≡ 0 →
+    (isPairing (stockIn f .fits) ps ≡ true → length ps ≤ greatest (stockIn f .fits)) ×
+    ((qs : List Pair) × ((isPairing (stockIn f .fits) qs ≡ true) × (length qs ≡ greatest (stockIn f .fits)))) ×
+    ((qs : List Pair) × (isPlan (stockIn f) qs ≡ true))
+
+abbrev pub MarksAre : Type 0
+MarksAre =
+    (f : List ℕ) (u : ℕ) → areBytes f ≡ true → stockFault f ≡ 0 → u < stockIn f .cameras →
+    ((markOf (stockIn f .fits) u ≡ 0) ↔ LeftBySome (stockIn f .fits) u) ×
+    ((markOf (stockIn f .fits) u ≡ 1) ↔
+    ((LeftBySome (stockIn f .fits) u → true ≡ false) × FitsSomeLeft (stockIn f .fits) u))
+
+abbrev pub SheetsTell : Type 0
+SheetsTell =
+    (f g o p : List ℕ) → areBytes f ≡ true → areBytes g ≡ true → sheetFault f o ≡ 0 → sheetFault g p ≡ 0 →
+    ((sheetIn f o ≡ sheetIn g p) ↔ (alike (stockIn f) (stockIn g) ≡ true)) × (sheetIn f o ≡ sheetOfFile f)
