@@ -4,7 +4,7 @@
 --   accepted-stock                the stock is well formed
 --   stock-few, fits-few           it has at most 127 cameras and 3,900 fits
 use mathlib.Core.Path.{_≡_}
-use mathlib.Core.Bool.{true, _&&_}
+use mathlib.Core.Bool.{Bool, true, _&&_}
 use mathlib.Core.List.{List}
 use Prim.Native.Nat.{ℕ, _≤_, _%_}
 use lib.Dec.{eqb, leb, ltb}
@@ -24,7 +24,6 @@ use Rattle.files.specs.GraphFile as graph
 use Rattle.files.specs.GraphFile.{graphIn, arcNamed, graphFault}
 use Rattle.files.specs.StockFile as stock
 use Rattle.files.specs.StockFile.{stockIn, pairsFault, stockFault}
-use mathlib.Core.Bool.{Bool}
 
 -- question 5 was answered yes
 header-fits : (k : Form) (f : List ℕ) (z : Bool) → shapeFault k f z ≡ 0 → z ≡ true
