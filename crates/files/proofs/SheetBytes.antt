@@ -1,21 +1,23 @@
 -- A standing sheet's bytes tell its number of cameras, its greatest number of pairs and every mark.
 --   sheets-alike, alike-sheets    two sheets are the same bytes exactly when cameras, greatest number and marks are
 --   sheet-number                  the number in its header is the greatest number of pairs
+--   sheet-line                    camera u's line, 5 + 7 * u bytes from the front, has u and its mark
 use mathlib.Core.Path.{_≡_, refl, sym, ap, subst, _∙_}
 use mathlib.Core.Logic.{inl, inr}
 use mathlib.Core.Bool.{true}
 use mathlib.Core.List.{List, [], _∷_, _++_}
-use Prim.Native.Nat.{ℕ, suc, _+_, _/_, _%_, _≤_, _<_}
+use Prim.Native.Nat.{ℕ, zero, suc, _+_, _*_, _/_, _%_, _≤_, _<_}
 use native.Mathlib.Omega.{arith}
 use lib.Dec.{ltb, eqb}
 use lib.ListN.{length, getD, drop}
+use lib.Seq.{drop-cons, drop-drop}
 use borrow.Author.Tests.{eqb-true, eq-eqb, ltb-true, ltb-false, le-leb, lt-leb}
-use Rattle.counting.specs.Tests.{same, below}
+use Rattle.counting.specs.Tests.{same, upFrom, below}
 use Rattle.counting.specs.Lists.{In}
 use Rattle.counting.specs.Pairs.{Pair}
 use Rattle.counting.proofs.Booleans.{and-both, and-two, and-three, by-test, true-false}
 use Rattle.counting.proofs.Range.{length-up}
-use Rattle.frames.specs.Frames.{digitOf, hexFrom, hexAt, digitByte, hexBytes, frame4, frameOf4}
+use Rattle.frames.specs.Frames.{digitOf, hexFrom, hexAt, digitByte, hexBytes, frame4, frame6, frameOf4}
 use Rattle.matching.specs.Stock.{Stock, greatest, leftOver, fitsLeftOver, markOf, marksFrom, marksOf}
 use Rattle.files.specs.StockFile.{markLines, sheetText, alike}
 
@@ -25,16 +27,29 @@ digit-value d h =
     by-test (ltb d 10) (λ s. let k = ltb-true d 10 s in rw (s, le-leb (48 + d) 57 (omega arith)) (omega arith))
     (λ s. let k = ltb-false d 10 s in rw (s, lt-leb (55 + d) 57 (omega arith)) (omega arith))
 
-digit-inj : (d e : ℕ) → d < 16 → e < 16 → digitByte d ≡ digitByte e → d ≡ e
-digit-inj d e h k q = sym (digit-value d h) ∙ ap digitOf q ∙ digit-value e k
+two-value : (x : ℕ) → x < 256 → hexFrom 0 (hexBytes 2 x) ≡ x
+unfolding hexBytes hexFrom
+two-value x h =
+    let a = digit-value (x / 16 % 16) (omega arith) in
+    let b = digit-value (x % 16) (omega arith) in
+    rw (a, b) (omega arith)
 
 two-digits : (x y : ℕ) → x < 256 → y < 256 → digitByte (x / 16 % 16) ≡ digitByte (y / 16 % 16) → digitByte (x % 16) ≡ digitByte (y % 16) → x ≡ y
+unfolding hexBytes
 two-digits x y h k p q =
-    let a = digit-inj (x / 16 % 16) (y / 16 % 16) (omega arith) (omega arith) p in
-    let b = digit-inj (x % 16) (y % 16) (omega arith) (omega arith) q in
-    omega arith
+    let e : hexBytes 2 x ≡ hexBytes 2 y = ap (λ (a : ℕ). a ∷ digitByte (x % 16) ∷ []) p ∙ ap (λ (b : ℕ). digitByte (y / 16 % 16) ∷ b ∷ []) q in
+    sym (two-value x h) ∙ ap (hexFrom 0) e ∙ two-value y k
 
 -- LINES
+-- past i lines of marks stand the lines of the marks past i
+lines-past : (u i : ℕ) (ms r : List ℕ) → i ≤ length ms → drop (7 * i) (markLines u ms ++ r) ≡ markLines (u + i) (drop i ms) ++ r
+unfolding markLines hexBytes
+lines-past u zero ms r h = ap (λ (k : ℕ). markLines k ms ++ r) (omega arith)
+lines-past u (suc i) [] r h = absurd (omega arith)
+lines-past u (suc i) (m ∷ ms) r h =
+    let e : 7 * suc i ≡ 7 + 7 * i = omega arith in
+    rw (e, ← drop-drop (7 * i) 7 (markLines u (m ∷ ms) ++ r)) (lines-past (suc u) i ms r (omega arith) ∙ ap (λ (k : ℕ). markLines k (drop i ms) ++ r) (omega arith))
+
 lines-inj : (u a b : ℕ) (ms ls : List ℕ) → ((x : ℕ) → In x ms → x < 256) → ((x : ℕ) → In x ls → x < 256) →
     markLines u ms ++ frameOf4 79 a ≡ markLines u ls ++ frameOf4 79 b → ms ≡ ls
 unfolding markLines hexBytes
@@ -71,6 +86,12 @@ unfolding marksFrom
 marks-length fs [] = refl
 marks-length fs (u ∷ us) = ap suc (marks-length fs us)
 
+marks-at : (fs : List Pair) (a n i : ℕ) → i < n → getD (marksFrom fs (upFrom a n)) i 0 ≡ markOf fs (a + i)
+unfolding marksFrom upFrom
+marks-at fs a zero i h = absurd (omega arith)
+marks-at fs a (suc n) zero h = ap (markOf fs) (omega arith)
+marks-at fs a (suc n) (suc i) h = marks-at fs (suc a) n i (omega arith) ∙ ap (markOf fs) (omega arith)
+
 same-is : (xs ys : List ℕ) → same xs ys ≡ true → xs ≡ ys
 unfolding same
 same-is [] [] e = refl
@@ -105,8 +126,17 @@ alike-sheets s t e =
     ap (λ (z : ℕ). frame4 65 (greatest (t .fits)) ++ markLines 0 (marksOf (t .cameras) (t .fits)) ++ frameOf4 79 z) (eqb-true _ _ (r .0))
 
 pub sheet-number : (n : ℕ) (fs : List Pair) → greatest fs < 256 → hexAt 2 2 (sheetText n fs) ≡ greatest fs
-unfolding hexBytes hexFrom
-sheet-number n fs h =
-    let a = digit-value (greatest fs / 16 % 16) (omega arith) in
-    let b = digit-value (greatest fs % 16) (omega arith) in
-    rw (a, b) (omega arith)
+unfolding hexBytes
+sheet-number n fs h = two-value (greatest fs) h
+
+pub sheet-line : (n u : ℕ) (fs : List Pair) → u < n → u < 256 →
+    (hexAt (5 + 7 * u + 2) 2 (sheetText n fs) ≡ u) × (hexAt (5 + 7 * u + 4) 2 (sheetText n fs) ≡ markOf fs u)
+unfolding markLines hexBytes
+sheet-line n u fs h k =
+    let l : u < length (marksOf n fs) = omega (arith, marks-length fs (below n), length-up 0 n) in
+    let z : 0 + u ≡ u = omega arith in
+    let past : drop (5 + 7 * u) (sheetText n fs) ≡ frame6 67 u (markOf fs u) ++ markLines (suc u) (drop (suc u) (marksOf n fs)) ++ frameOf4 79 n =
+    rw (← drop-drop (7 * u) 5 (sheetText n fs)) (lines-past 0 u (marksOf n fs) (frameOf4 79 n) (omega arith) ∙ rw (drop-cons (marksOf n fs) u 0 l, marks-at fs 0 n u h, z)) in (
+      rw (← drop-drop 2 (5 + 7 * u) (sheetText n fs), past) (two-value u k),
+      rw (← drop-drop 4 (5 + 7 * u) (sheetText n fs), past) (two-value (markOf fs u) (omega (arith, mark-low fs u))),
+    )

@@ -1,10 +1,11 @@
 -- The promises, kept for every file.
 --   reaches-by-paths, path-or-barrier              demand 2
 --   greatest-is, marks-are, sheets-tell            demand 3
---   sheets-by-fits, sheet-number-is                and what it says of lit pairs, and of the number in a sheet's bytes
+--   sheets-by-fits                                 and what it says of lit pairs
+--   sheet-number-is, sheet-marks-are               and of the number and the marks in a sheet's bytes
 use mathlib.Core.Path.{_≡_, sym, ap, _∙_}
 use mathlib.Core.List.{List}
-use Prim.Native.Nat.{ℕ, _<_}
+use Prim.Native.Nat.{ℕ, _+_, _<_}
 use native.Mathlib.Omega.{arith}
 use lib.ListN.{length, drop}
 use lib.Seq.{take-append-seam}
@@ -20,9 +21,9 @@ use Rattle.matching.proofs.Promises.{well-formed-fits}
 use Rattle.files.specs.GraphFile.{graphIn}
 use Rattle.files.specs.StockFile.{stockIn, stockFault, sheetText}
 use Rattle.lanes.specs.Entry.{roomFault, sheetFault, sheetOfFile}
-use Rattle.lanes.specs.Promise.{ReachesByPaths, PathOrBarrier, GreatestIs, MarksAre, sheetIn, SheetsTell, SheetsByFits, SheetNumber}
+use Rattle.lanes.specs.Promise.{ReachesByPaths, PathOrBarrier, GreatestIs, MarksAre, sheetIn, SheetsTell, SheetsByFits, SheetNumber, SheetMarks, cameraLine}
 use Rattle.files.proofs.AcceptedFiles.{accepted-graph, accepted-stock, stock-few}
-use Rattle.files.proofs.SheetBytes.{sheets-alike, alike-sheets, sheet-number}
+use Rattle.files.proofs.SheetBytes.{sheets-alike, alike-sheets, sheet-number, sheet-line}
 
 pub reaches-by-paths : ReachesByPaths
 reaches-by-paths f w e = skew.reaches-by-paths (graphIn f) (accepted-graph f e) w
@@ -75,3 +76,9 @@ sheet-number-is f o e =
       (r .0, (r .1 .0, r .1 .1 ∙ sym h)),
       λ ps q. let b = greatest-bound (stockIn f .cameras) (stockIn f .fits) (well-formed-fits (stockIn f) (accepted-stock f z)) ps q in omega arith,
     )
+
+pub sheet-marks-are : SheetMarks
+sheet-marks-are f o u e h =
+    let few = stock-few f (stock-none f o e) in
+    let r = sheet-line (stockIn f .cameras) u (stockIn f .fits) h (omega arith) in
+    (ap (hexAt (cameraLine u + 2) 2) (sheet-in f o e) ∙ r .0, ap (hexAt (cameraLine u + 4) 2) (sheet-in f o e) ∙ r .1)

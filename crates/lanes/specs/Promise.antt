@@ -1,6 +1,6 @@
 -- What is promised of every graph file and of every two stock files. Each promise is a type; a term of the type is the theorem's proof. The
--- first five are document 03's without its premise that a file's elements are bytes (BytePromise has them as it states them); SheetsByFits and
--- SheetNumber are added.
+-- first five are document 03's without its premise that a file's elements are bytes (BytePromise has them as it states them); SheetsByFits,
+-- SheetNumber and SheetMarks are added.
 --   ReachesByPaths    demand 2: a node is reachable exactly if a regular path from the source ends there
 --   PathOrBarrier     demand 2: a path and a barrier exclude each other, and without a path the canonical one is a barrier
 --   GreatestIs        demand 3: the greatest number of pairs, by all pairings of the file's fits; and there is a plan
@@ -8,12 +8,13 @@
 --   SheetsTell        demand 3: sheets are alike exactly when cameras, greatest number and every mark are; each is the sheet defined
 --   SheetsByFits      demand 3: the same cameras and fits get the same sheet, whichever pairs are lit and whatever stood in the buffers
 --   SheetNumber       demand 3: the number in a sheet's bytes is the length of some pairing of the fits, and of no longer one
+--   SheetMarks        demand 3: camera u's line in a sheet's bytes begins at cameraLine u, and has u and its mark
 --   Marked            G1 to G5 and S1 to S7
 use mathlib.Core.Path.{_≡_}
 use mathlib.Core.Logic.{_↔_}
 use mathlib.Core.Bool.{true, false}
 use mathlib.Core.List.{List, [], _∷_}
-use Prim.Native.Nat.{ℕ, _≤_, _<_}
+use Prim.Native.Nat.{ℕ, _+_, _*_, _≤_, _<_}
 use lib.ListN.{length, take}
 use Rattle.counting.specs.Pairs.{Pair, pair}
 use Rattle.frames.specs.Frames.{hexAt}
@@ -71,6 +72,16 @@ SheetNumber =
     (f o : List ℕ) → sheetFault f o ≡ 0 →
     ((qs : List Pair) × ((isPairing (stockIn f .fits) qs ≡ true) × (length qs ≡ hexAt 2 2 (sheetIn f o)))) ×
     ((ps : List Pair) → isPairing (stockIn f .fits) ps ≡ true → length ps ≤ hexAt 2 2 (sheetIn f o))
+
+-- where camera u's line begins: behind a header of 5 bytes and u lines of 7
+abbrev pub cameraLine : (camera : ℕ) → ℕ
+cameraLine u = 5 + 7 * u
+
+abbrev pub SheetMarks : Type 0
+SheetMarks =
+    (f o : List ℕ) (u : ℕ) → sheetFault f o ≡ 0 → u < stockIn f .cameras →
+    (hexAt (cameraLine u + 2) 2 (sheetIn f o) ≡ u) ×
+    (hexAt (cameraLine u + 4) 2 (sheetIn f o) ≡ markOf (stockIn f .fits) u)
 
 -- THE MARKED SET
 abbrev pub arc : (tail head : ℕ) → Pair
