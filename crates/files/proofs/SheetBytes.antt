@@ -1,5 +1,6 @@
 -- A standing sheet's bytes tell its number of cameras, its greatest number of pairs and every mark.
 --   sheets-alike, alike-sheets    two sheets are the same bytes exactly when cameras, greatest number and marks are
+--   mark-low                      a mark is at most 2
 --   sheet-number                  the number in its header is the greatest number of pairs
 --   sheet-line                    camera u's line, 5 + 7 * u bytes from the front, has u and its mark
 use mathlib.Core.Path.{_≡_, refl, sym, ap, subst, _∙_}
@@ -71,7 +72,7 @@ text-inj a b c d ms ls p q h k e = (
 )
 
 -- MARKS
-mark-low : (fs : List Pair) (u : ℕ) → markOf fs u ≤ 2
+pub mark-low : (fs : List Pair) (u : ℕ) → markOf fs u ≤ 2
 mark-low fs u =
     by-test (leftOver fs u) (λ s. rw s (omega arith)) (λ s. by-test (fitsLeftOver fs u) (λ t. rw (s, t) (omega arith)) (λ t. rw (s, t) (omega arith)))
 

@@ -13,7 +13,7 @@ pub greatest-is : GreatestIs
 greatest-is f ps b e = promises.greatest-is f ps e
 
 pub marks-are : MarksAre
-marks-are f u b e h = promises.marks-are f u e h
+marks-are f u b e h = let r = promises.marks-are f u e h in (r .0, r .1)
 
 pub sheets-tell : SheetsTell
 sheets-tell f g o p b c d e = promises.sheets-tell f g o p d e

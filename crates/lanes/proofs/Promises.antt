@@ -3,17 +3,21 @@
 --   greatest-is, marks-are, sheets-tell            demand 3
 --   sheets-by-fits                                 and what it says of lit pairs
 --   sheet-number-is, sheet-marks-are               and of the number and the marks in a sheet's bytes
-use mathlib.Core.Path.{_≡_, sym, ap, _∙_}
+use mathlib.Core.Path.{_≡_, refl, sym, ap, _∙_}
+use mathlib.Core.Logic.{⊎-elim}
+use mathlib.Core.Bool.{true, false}
 use mathlib.Core.List.{List}
 use Prim.Native.Nat.{ℕ, _+_, _<_}
 use native.Mathlib.Omega.{arith}
 use lib.ListN.{length, drop}
 use lib.Seq.{take-append-seam}
 use borrow.Author.Tests.{eq-eqb}
+use Rattle.counting.proofs.Booleans.{true-false, same-or}
 use Rattle.frames.specs.Frames.{hexAt}
 use Rattle.frames.proofs.Questions.{or-none}
 use Rattle.skew.proofs.Promise as skew
-use Rattle.matching.specs.Stock.{greatest}
+use Rattle.matching.specs.Promise.{LeftBySome}
+use Rattle.matching.specs.Stock.{greatest, markOf}
 use Rattle.matching.proofs.Matchings.{list-count}
 use Rattle.matching.proofs.Greatest.{greatest-bound, greatest-pairing}
 use Rattle.matching.proofs.Promises as matching
@@ -23,7 +27,7 @@ use Rattle.files.specs.StockFile.{stockIn, stockFault, sheetText}
 use Rattle.lanes.specs.Entry.{roomFault, sheetFault, sheetOfFile}
 use Rattle.lanes.specs.Promise.{ReachesByPaths, PathOrBarrier, GreatestIs, MarksAre, sheetIn, SheetsTell, SheetsByFits, SheetNumber, SheetMarks, cameraLine}
 use Rattle.files.proofs.AcceptedFiles.{accepted-graph, accepted-stock, stock-few}
-use Rattle.files.proofs.SheetBytes.{sheets-alike, alike-sheets, sheet-number, sheet-line}
+use Rattle.files.proofs.SheetBytes.{sheets-alike, alike-sheets, mark-low, sheet-number, sheet-line}
 
 pub reaches-by-paths : ReachesByPaths
 reaches-by-paths f w e = skew.reaches-by-paths (graphIn f) (accepted-graph f e) w
@@ -34,8 +38,23 @@ path-or-barrier f e = skew.path-or-barrier (graphIn f) (accepted-graph f e)
 pub greatest-is : GreatestIs
 greatest-is f ps e = matching.greatest-is (stockIn f) ps (accepted-stock f e)
 
+-- a mark is at most 2, so what says when it is 0 and when it is 1 says when it is 2
 pub marks-are : MarksAre
-marks-are f u e h = matching.marks-are (stockIn f) u (accepted-stock f e) h
+marks-are f u e h =
+    let fs = stockIn f .fits in
+    let r = matching.marks-are (stockIn f) u (accepted-stock f e) h in
+    let low = mark-low fs u in (
+      r .0,
+      r .1,
+      (
+        λ q.
+            let never : LeftBySome fs u → true ≡ false = λ l. absurd (omega (arith, r .0 .1 l)) in
+            (never, λ v. absurd (omega (arith, r .1 .1 (never, v)))),
+        λ n.
+            ⊎-elim (λ z. true-false refl (n .0 (r .0 .0 z)))
+            (λ z. ⊎-elim (λ o. true-false refl (n .1 (r .1 .0 o .1))) (λ o. omega arith) (same-or (markOf fs u) 1)) (same-or (markOf fs u) 0),
+      ),
+    )
 
 -- THE SHEET'S BYTES
 greatest-low : (f : List ℕ) → stockFault f ≡ 0 → greatest (stockIn f .fits) < 256

@@ -1,10 +1,10 @@
 -- What is promised of every graph file and of every two stock files. Each promise is a type; a term of the type is the theorem's proof. The
--- first five are document 03's without its premise that a file's elements are bytes (BytePromise has them as it states them); SheetsByFits,
--- SheetNumber and SheetMarks are added.
+-- first five are document 03's (BytePromise has them as it states them), without its premise that a file's elements are bytes, and with mark 2;
+-- SheetsByFits, SheetNumber and SheetMarks are added.
 --   ReachesByPaths    demand 2: a node is reachable exactly if a regular path from the source ends there
 --   PathOrBarrier     demand 2: a path and a barrier exclude each other, and without a path the canonical one is a barrier
 --   GreatestIs        demand 3: the greatest number of pairs, by all pairings of the file's fits; and there is a plan
---   MarksAre          demand 3: the marks, by all largest pairings
+--   MarksAre          demand 3: the marks 0, 1 and 2, by all largest pairings
 --   SheetsTell        demand 3: sheets are alike exactly when cameras, greatest number and every mark are; each is the sheet defined
 --   SheetsByFits      demand 3: the same cameras and fits get the same sheet, whichever pairs are lit and whatever stood in the buffers
 --   SheetNumber       demand 3: the number in a sheet's bytes is the length of some pairing of the fits, and of no longer one
@@ -51,7 +51,9 @@ MarksAre =
     (f : List ℕ) (u : ℕ) → stockFault f ≡ 0 → u < stockIn f .cameras →
     ((markOf (stockIn f .fits) u ≡ 0) ↔ LeftBySome (stockIn f .fits) u) ×
     ((markOf (stockIn f .fits) u ≡ 1) ↔
-    ((LeftBySome (stockIn f .fits) u → true ≡ false) × FitsSomeLeft (stockIn f .fits) u))
+    ((LeftBySome (stockIn f .fits) u → true ≡ false) × FitsSomeLeft (stockIn f .fits) u)) ×
+    ((markOf (stockIn f .fits) u ≡ 2) ↔
+    ((LeftBySome (stockIn f .fits) u → true ≡ false) × (FitsSomeLeft (stockIn f .fits) u → true ≡ false)))
 
 -- DEMAND 3: what the call left at the buffer's front
 abbrev pub sheetIn : (file buffer : List ℕ) → List ℕ
