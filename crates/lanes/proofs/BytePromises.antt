@@ -1,4 +1,4 @@
--- Document 03's five promises, of files of bytes: each is one of Promises with a premise more.
+-- Document 03's five promises, of files of bytes: each is one of Promises, or a part of it, with a premise more.
 --   reaches-by-paths, path-or-barrier, greatest-is, marks-are, sheets-tell    demands 2 and 3
 use Rattle.lanes.specs.BytePromise.{ReachesByPaths, PathOrBarrier, GreatestIs, MarksAre, SheetsTell}
 use Rattle.lanes.proofs.Promises as promises
@@ -7,7 +7,7 @@ pub reaches-by-paths : ReachesByPaths
 reaches-by-paths f w a = promises.reaches-by-paths f w (a .1)
 
 pub path-or-barrier : PathOrBarrier
-path-or-barrier f a = promises.path-or-barrier f (a .1)
+path-or-barrier f a = let r = promises.path-or-barrier f (a .1) in (r .0, r .1)
 
 pub greatest-is : GreatestIs
 greatest-is f ps b e = promises.greatest-is f ps e

@@ -11,10 +11,11 @@ use Prim.Native.Nat.{ℕ, _+_, _<_}
 use native.Mathlib.Omega.{arith}
 use lib.ListN.{length, drop}
 use lib.Seq.{take-append-seam}
-use borrow.Author.Tests.{eq-eqb}
-use Rattle.counting.proofs.Booleans.{true-false, same-or}
+use borrow.Author.Tests.{eq-eqb, eqb-true}
+use Rattle.counting.proofs.Booleans.{and-both, and-two, true-false, same-or}
 use Rattle.frames.specs.Frames.{hexAt}
 use Rattle.frames.proofs.Questions.{or-none}
+use Rattle.skew.specs.Graph.{mate, isRegular}
 use Rattle.skew.proofs.Promise as skew
 use Rattle.matching.specs.Promise.{LeftBySome}
 use Rattle.matching.specs.Stock.{greatest, markOf}
@@ -33,7 +34,17 @@ pub reaches-by-paths : ReachesByPaths
 reaches-by-paths f w e = skew.reaches-by-paths (graphIn f) (accepted-graph f e) w
 
 pub path-or-barrier : PathOrBarrier
-path-or-barrier f e = skew.path-or-barrier (graphIn f) (accepted-graph f e)
+path-or-barrier f e =
+    let g = graphIn f in
+    let r = skew.path-or-barrier g (accepted-graph f e) in
+    let t = reaches-by-paths f (mate (g .source)) e in (
+      r .0,
+      r .1,
+      (
+        λ h. let p = t .0 h in (p .0, and-both _ _ (p .1 .0) (eq-eqb _ _ (p .1 .1))),
+        λ p. let w = and-two (isRegular g (p .0)) _ (p .1) in t .1 (p .0, (w .0, eqb-true _ _ (w .1))),
+      ),
+    )
 
 pub greatest-is : GreatestIs
 greatest-is f ps e = matching.greatest-is (stockIn f) ps (accepted-stock f e)

@@ -1,4 +1,4 @@
--- Five promises as document 03 states them: of files whose elements are bytes. Promise says each of them, under the same name, of every file.
+-- Five promises as document 03 states them: of files whose elements are bytes. Promise says as much or more under each name, of every file.
 --   areBytes           every element is a byte
 --   IsGraphFile        bytes that the questions of a graph file accept
 --   ReachesByPaths, PathOrBarrier, GreatestIs, MarksAre, SheetsTell    demands 2 and 3, of files of bytes

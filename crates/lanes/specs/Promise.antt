@@ -1,13 +1,13 @@
 -- What is promised of every graph file and of every two stock files. Each promise is a type; a term of the type is the theorem's proof. The
--- first five are document 03's (BytePromise has them as it states them), without its premise that a file's elements are bytes, and with mark 2;
--- SheetsByFits, SheetNumber and SheetMarks are added.
+-- first five are document 03's (BytePromise has them as it states them), without its premise that a file's elements are bytes; PathOrBarrier also
+-- says what hasPath tells, and MarksAre what mark 2 does. SheetsByFits, SheetNumber and SheetMarks are added.
 --   ReachesByPaths    demand 2: a node is reachable exactly if a regular path from the source ends there
---   PathOrBarrier     demand 2: a path and a barrier exclude each other, and without a path the canonical one is a barrier
+--   PathOrBarrier     demand 2: a path and a barrier exclude each other, and without a path the canonical one is a barrier; hasPath tells which
 --   GreatestIs        demand 3: the greatest number of pairs, by all pairings of the file's fits; and there is a plan
 --   MarksAre          demand 3: the marks 0, 1 and 2, by all largest pairings
 --   SheetsTell        demand 3: sheets are alike exactly when cameras, greatest number and every mark are; each is the sheet defined
 --   SheetsByFits      demand 3: the same cameras and fits get the same sheet, whichever pairs are lit and whatever stood in the buffers
---   SheetNumber       demand 3: the number in a sheet's bytes is the length of some pairing of the fits, and of no longer one
+--   SheetNumber       demand 3: the number in a sheet's bytes is the length of some pairing of the fits, and none is longer
 --   SheetMarks        demand 3: camera u's line in a sheet's bytes begins at cameraLine u, and has u and its mark
 --   Marked            G1 to G5 and S1 to S7
 use mathlib.Core.Path.{_≡_}
@@ -35,7 +35,8 @@ abbrev pub PathOrBarrier : Type 0
 PathOrBarrier =
     (f : List ℕ) → graphFault f ≡ 0 →
     (hasPath (graphIn f) ≡ false → isBarrier (graphIn f) (canonical (graphIn f)) ≡ true) ×
-    ((is cs : List ℕ) → isWanted (graphIn f) is ≡ true → isBarrier (graphIn f) cs ≡ false)
+    ((is cs : List ℕ) → isWanted (graphIn f) is ≡ true → isBarrier (graphIn f) cs ≡ false) ×
+    ((hasPath (graphIn f) ≡ true) ↔ ((is : List ℕ) × (isWanted (graphIn f) is ≡ true)))
 
 -- the greatest number of pairs, and some plan for every stock
 abbrev pub GreatestIs : Type 0
