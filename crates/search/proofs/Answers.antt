@@ -1,31 +1,41 @@
 -- From the search's end to its answer.
 --   wanted-short             a wanted path has fewer arcs than the graph has nodes
 --   source-small             the source's mate can be told
---   restorable, answers-path      the source's mate is reached: the path is restored
---   barred, answers-barrier       it is not: there is no path
+--   restorable, path-written      the source's mate is reached: the path is restored
+--   reached-only             every reached node is reachable
+--   barred                   the source's mate is not reached
+--   sought-searched          what the search with its tables lent leaves is what a call owes that asks for no classes
+--   path-answered            and, where there is a path, one that asks for them
+--   sought-none              there is none: what the tables show
+--   wanted-front             the path written, read back
 --   front-clear              the front of a table of zeros is clear
-use mathlib.Core.Path.{_≡_, sym, ap, subst, _∙_}
+use mathlib.Core.Path.{_≡_, refl, sym, ap, subst, _∙_}
 use mathlib.Core.Logic.{_⊎_, inl, inr, ⊎-elim}
 use mathlib.Core.Bool.{Bool, true, false}
-use mathlib.Core.List.{List, _++_}
-use Prim.Native.Nat.{ℕ, _+_, _*_, _≤_, _<_}
+use mathlib.Core.List.{List}
+use Prim.Native.Nat.{ℕ, _*_, _≤_, _<_}
 use native.Mathlib.Omega.{arith}
 use lib.Dec.{ltb, eqb}
-use lib.ListN.{length, getD, take, drop, replicate, length-replicate, getD-replicate, List·getD-eq-default}
-use lib.Seq.{sets-eq, take-append-seam, length-take-le, getD-take}
+use lib.ListN.{length, getD, take, replicate, length-replicate, getD-replicate, List·getD-eq-default}
+use lib.Seq.{length-take-le, getD-take}
 use borrow.Author.Tests.{ltb-true, ltb-false}
 use Rattle.counting.proofs.Booleans.{and-left, by-test}
 use Rattle.counting.proofs.Range.{pigeonhole}
-use Rattle.skew.specs.Graph.{Graph, mate, nodes, nodesAlong, endOf, isRegular, isWanted, hasPath, isReachable, canonical}
+use Rattle.counting.proofs.Stores.{take-sets}
+use Rattle.skew.specs.Graph.{Graph, mate, nodes, nodesAlong, endOf, isRegular, isWanted}
 use Rattle.skew.specs.Paths.{head, WellFormed}
 use Rattle.skew.specs.Search.{State, Earlier}
 use Rattle.skew.proofs.Paths.{regular-path, nodes-within, length-nodes}
 use Rattle.skew.proofs.Restoration.{restored-path}
+use Rattle.skew.proofs.Exact.{reached-reachable}
 use Rattle.arcs.specs.Table.{graphOf}
 use Rattle.search.specs.State.{stateOf, Clear}
 use Rattle.search.specs.Queue.{Ended}
 use Rattle.search.specs.Restore.{Route, LabelTable, Restorable, Restored}
 use Rattle.search.specs.ClassTable.{Barred}
+use Rattle.search.specs.Answer.{PathWritten, ReachedOnly, PathSought, Searched, Answered}
+use Rattle.search.specs.declared.answer.Answer.{Answer}
+use Rattle.search.specs.declared.answer.Answer.the-variants.{Path, NoPath}
 use Rattle.arcs.proofs.Tables.{tail-is, head-is, arcs-length}
 use Rattle.search.proofs.ClassTables.{no-path, table-reached}
 
@@ -48,6 +58,9 @@ module _ (n s : ℕ) (ts hs bs vs ss ms : List ℕ) (r : Bool) (E : Ended n s ts
 
   pub source-small : s < 8192
   source-small = omega (arith, E .search .table .well-formed .source-node, E .search .table .pairs-few)
+
+  pub reached-only : ReachedOnly g bs
+  reached-only = reached-reachable g (E .search .table .well-formed) st (E .search .state .invariant)
 
   -- THE PATH
   labels : LabelTable n s ts hs bs vs
@@ -77,24 +90,33 @@ module _ (n s : ℕ) (ts hs bs vs ss ms : List ℕ) (r : Bool) (E : Ended n s ts
     pub restorable : (size : ℕ) → 2 * n ≤ size → Restorable n s ts hs bs vs s m 0 size
     restorable size h = rw em (record { labels = labels; path = wanted .0; route = wanted .1; room = omega (arith, short) })
 
-    pub answers-path : (k : ℕ) (out out′ : List ℕ) → 2 * n ≤ length out → Restored n s ts hs bs vs s m 0 out out′ k →
-        (k < nodes g) × (isWanted g (take k out′) ≡ true)
-    answers-path k out out′ h R =
+    pub path-written : (k : ℕ) (out out′ : List ℕ) → Restored n s ts hs bs vs s m 0 out out′ k → PathWritten g k out out′
+    path-written k out out′ R =
         let p = wanted .0 in
         let w = R p (subst (λ (y : ℕ). Route g bs vs s y p) (sym em) (wanted .1)) in
-        let kp : k ≡ length p = omega (arith, w .0) in
-        let o : out′ ≡ p ++ drop (0 + length p) out = w .1 ∙ sets-eq p out 0 (omega (arith, short)) in
-        let t : take k out′ ≡ p = rw (kp, o) (take-append-seam p (drop (0 + length p) out)) in
-        (omega (arith, short), rw t (wanted .2))
+        record { arcs = p; wanted = wanted .2; count = omega (arith, w .0); few = omega (arith, short, w .0); written = w .1 }
 
   -- NO PATH
   module _ (none : r ≡ false) where
     pub barred : Barred n s ts hs bs vs ss
     barred = let C = E .closed none in record { clock = E .clock; search = E .search; closed = C .0; shut = C .1 }
 
-    pub answers-barrier : (cs : List ℕ) → cs ≡ canonical g →
-        (hasPath g ≡ false) × ((v : ℕ) → isReachable g v ≡ ltb 0 (getD bs v 0)) × (cs ≡ canonical g)
-    answers-barrier cs c = (no-path n s ts hs bs vs ss barred, table-reached n s ts hs bs vs ss barred, c)
+-- THE TWO CALLS
+module _ (n s : ℕ) (ts hs p p′ bs vs ss ms : List ℕ) where
+  pub sought-searched : (a : Answer) → PathSought n s ts hs a p p′ bs vs ss ms → Searched (graphOf n s ts hs) a p p′ bs
+  sought-searched (Path k) F = F
+  sought-searched NoPath F = (no-path n s ts hs bs vs ss (F .1), F .0, table-reached n s ts hs bs vs ss (F .1))
+
+  pub path-answered : (a : Answer) (k : ℕ) (cs : List ℕ) → a ≡ Path k → PathSought n s ts hs a p p′ bs vs ss ms → Answered (graphOf n s ts hs) a p p′ cs cs
+  path-answered a k cs e F =
+      let W : PathWritten (graphOf n s ts hs) k p p′ = subst (λ (x : Answer). PathSought n s ts hs x p p′ bs vs ss ms) e F .0 in
+      subst (λ (x : Answer). Answered (graphOf n s ts hs) x p p′ cs cs) (sym e) (W, refl)
+
+  pub sought-none : (a : Answer) → a ≡ NoPath → PathSought n s ts hs a p p′ bs vs ss ms → PathSought n s ts hs NoPath p p′ bs vs ss ms
+  sought-none a e F = subst (λ (x : Answer). PathSought n s ts hs x p p′ bs vs ss ms) e F
+
+pub wanted-front : {g : Graph} {k : ℕ} {p p′ : List ℕ} → PathWritten g k p p′ → k ≤ length p → isWanted g (take k p′) ≡ true
+wanted-front {p = p} W h = let c = W .count in rw (W .written, c, take-sets p (W .arcs) (omega arith)) (W .wanted)
 
 pub front-clear : (G : Graph) (size : ℕ) → nodes G ≤ size → Clear G (take (nodes G) (replicate size 0))
 front-clear G size h =

@@ -4,7 +4,7 @@
 --   Queue      the order of a search, its start and end
 --   Restore    path restoration
 --   ClassTable the canonical barrier's classes
---   Answer     a path, or the barrier
+--   Answer     a path, or the reachable nodes, or the barrier
 pub mod State
 pub mod Steps
 pub mod Queue

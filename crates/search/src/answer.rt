@@ -1,10 +1,14 @@
-// The answer to a graph (document 01, "The graph" and "The barrier"): a wanted path, or the canonical barrier with the reachable nodes.
+// The answer to a graph (document 01, "The graph" and "The barrier"): a wanted path, or the reason why there is none.
+//   find_path           searched with the state's tables lent: a path, or tables that show that there is none
+//   path_or_reached     a path, or the reachable nodes
+//   answer_in           a path, or the canonical barrier, the tables lent
+//   path_or_barrier     a path, or the canonical barrier
 ghost use Prim.Native.Nat.{_*_, _≤_};
 ghost use mathlib.Core.Path.{_≡_};
 ghost use lib.ListN.{length};
 ghost use Rattle.arcs.specs.Table.{graphOf, ArcTable};
 ghost use Rattle.search.specs.State.{Clear};
-ghost use Rattle.search.specs.Answer.{Answered};
+ghost use Rattle.search.specs.Answer.{PathSought, Searched, Answered};
 use crate::classes::classes;
 use crate::restore::restore;
 use crate::search::search;
@@ -14,11 +18,12 @@ use arcs::node::mate_of;
 pub enum Answer {
     // The number of the path's arcs.
     Path(usize),
-    Barrier,
+    // There is no regular path from the source to its mate.
+    NoPath,
 }
 
-// The answer, with the state's tables lent.
-fn answer_in(
+// A path's arcs go to the front of `path`, which nothing else touches.
+fn find_path(
     pairs: usize,
     source: usize,
     tails: &[u8],
@@ -28,14 +33,13 @@ fn answer_in(
     base: &mut [usize],
     mark: &mut [usize],
     queue: &mut [usize],
-    class: &mut [u8],
     path: &mut [usize],
 ) -> Answer
     requires { ⌜ ArcTable pairs source (now tails) (now heads) ⌝ }
     requires { ⌜ Clear (graphOf pairs source (now tails) (now heads)) (now birth) × Clear (graphOf pairs source (now tails) (now heads)) (now mark) ⌝ }
     requires { ⌜ (length (now via) ≡ 2 * pairs) × (length (now base) ≡ pairs) × (length (now queue) ≡ 2 * pairs) ⌝ }
-    requires { ⌜ (length (now class) ≡ 2 * pairs) × (2 * pairs ≤ length (now path)) ⌝ }
-    ensures { λ r. ⌜ Answered (graphOf pairs source (now (tails .entry)) (now (heads .entry))) r (now (path .exit)) (now (birth .exit)) (now (class .exit)) ⌝ }
+    requires { ⌜ 2 * pairs ≤ length (now path) ⌝ }
+    ensures { λ r. ⌜ PathSought pairs source (now (tails .entry)) (now (heads .entry)) r (now (path .entry)) (now (path .exit)) (now (birth .exit)) (now (via .exit)) (now (base .exit)) (now (mark .exit)) ⌝ }
 {
     if search(pairs, source, tails, heads, birth, via, base, mark, queue) {
         let goal = mate_of(source);
@@ -53,24 +57,21 @@ fn answer_in(
         );
         return Answer::Path(count);
     }
-    classes(pairs, source, tails, heads, birth, via, base, mark, class);
-    Answer::Barrier
+    Answer::NoPath
 }
 
-// A path's arcs go to the front of `path`. Where there is none, `reached` is 0 exactly at the nodes that are not reachable, and `class` holds the canonical
-// barrier. The state's other tables are small and live here, so that a caller lends only what it reads.
-pub fn path_or_barrier(
+// Where there is no path, `reached` is 0 exactly at the nodes that are not reachable. The state's other tables are small and live here.
+pub fn path_or_reached(
     pairs: usize,
     source: usize,
     tails: &[u8],
     heads: &[u8],
     reached: &mut [usize],
-    class: &mut [u8],
     path: &mut [usize],
 ) -> Answer
     requires { ⌜ ArcTable pairs source (now tails) (now heads) ⌝ }
-    requires { ⌜ (length (now reached) ≡ 2 * pairs) × (length (now class) ≡ 2 * pairs) × (2 * pairs ≤ length (now path)) ⌝ }
-    ensures { λ r. ⌜ Answered (graphOf pairs source (now (tails .entry)) (now (heads .entry))) r (now (path .exit)) (now (reached .exit)) (now (class .exit)) ⌝ }
+    requires { ⌜ (length (now reached) ≡ 2 * pairs) × (2 * pairs ≤ length (now path)) ⌝ }
+    ensures { λ r. ⌜ Searched (graphOf pairs source (now (tails .entry)) (now (heads .entry))) r (now (path .entry)) (now (path .exit)) (now (reached .exit)) ⌝ }
 {
     let mut via = [0usize; 256];
     let mut base = [0usize; 128];
@@ -78,12 +79,84 @@ pub fn path_or_barrier(
     let mut queue = [0usize; 256];
     let nodes = 2 * pairs;
     clear(reached);
-    answer_in(
+    find_path(
         pairs,
         source,
         tails,
         heads,
         reached,
+        &mut via[..nodes],
+        &mut base[..pairs],
+        &mut mark[..nodes],
+        &mut queue[..nodes],
+        path,
+    )
+}
+
+// The class table is filled where there is no path, and otherwise left as it was.
+fn answer_in(
+    pairs: usize,
+    source: usize,
+    tails: &[u8],
+    heads: &[u8],
+    birth: &mut [usize],
+    via: &mut [usize],
+    base: &mut [usize],
+    mark: &mut [usize],
+    queue: &mut [usize],
+    class: &mut [u8],
+    path: &mut [usize],
+) -> Answer
+    requires { ⌜ ArcTable pairs source (now tails) (now heads) ⌝ }
+    requires { ⌜ Clear (graphOf pairs source (now tails) (now heads)) (now birth) × Clear (graphOf pairs source (now tails) (now heads)) (now mark) ⌝ }
+    requires { ⌜ (length (now via) ≡ 2 * pairs) × (length (now base) ≡ pairs) × (length (now queue) ≡ 2 * pairs) ⌝ }
+    requires { ⌜ (length (now class) ≡ 2 * pairs) × (2 * pairs ≤ length (now path)) ⌝ }
+    ensures { λ r. ⌜ Answered (graphOf pairs source (now (tails .entry)) (now (heads .entry))) r (now (path .entry)) (now (path .exit)) (now (class .entry)) (now (class .exit)) ⌝ }
+{
+    let answer = find_path(
+        pairs,
+        source,
+        tails,
+        heads,
+        birth,
+        via,
+        base,
+        mark,
+        queue,
+        path,
+    );
+    let Answer::NoPath = answer else {
+        return answer;
+    };
+    classes(pairs, source, tails, heads, birth, via, base, mark, class);
+    Answer::NoPath
+}
+
+// Where there is no path, `class` gets the canonical barrier, from the reached nodes.
+pub fn path_or_barrier(
+    pairs: usize,
+    source: usize,
+    tails: &[u8],
+    heads: &[u8],
+    class: &mut [u8],
+    path: &mut [usize],
+) -> Answer
+    requires { ⌜ ArcTable pairs source (now tails) (now heads) ⌝ }
+    requires { ⌜ (length (now class) ≡ 2 * pairs) × (2 * pairs ≤ length (now path)) ⌝ }
+    ensures { λ r. ⌜ Answered (graphOf pairs source (now (tails .entry)) (now (heads .entry))) r (now (path .entry)) (now (path .exit)) (now (class .entry)) (now (class .exit)) ⌝ }
+{
+    let mut birth = [0usize; 256];
+    let mut via = [0usize; 256];
+    let mut base = [0usize; 128];
+    let mut mark = [0usize; 256];
+    let mut queue = [0usize; 256];
+    let nodes = 2 * pairs;
+    answer_in(
+        pairs,
+        source,
+        tails,
+        heads,
+        &mut birth[..nodes],
         &mut via[..nodes],
         &mut base[..pairs],
         &mut mark[..nodes],

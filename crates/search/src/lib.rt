@@ -3,7 +3,7 @@
 //   search     the order of the steps: a queue of reached nodes
 //   restore    the path found, restored through its buds
 //   classes    the canonical barrier's class table
-//   answer     a path, or the barrier
+//   answer     a path, or the reachable nodes, or the barrier
 pub mod answer;
 mod classes;
 mod restore;

@@ -1,26 +1,20 @@
--- The source's mate is reached and the path restored, or the classes are written.
-use Rattle.search.proofs.Answers.{source-small, restorable, answers-path, barred, answers-barrier}
+-- The path was written, or the classes are.
+use Rattle.search.proofs.ClassTables.{no-path}
+use Rattle.search.proofs.Answers.{path-answered, sought-none}
 use borrow.Author.Needs.{needs}
 use Rattle.search.proofs.answer.answer_in.Statement.{statement}
 use Rattle.search.proofs.answer.answer_in.Tie as tie
 
-search-requires : tie.Need-search-requires
-search-requires c κs =
-    let pre = c .before .before .before .before .before .before .before .before .before .before .before .before .before .before .pre in
-    (pre .0, (pre .1 .0, pre .1 .1 .0))
+find-path-requires : tie.Need-find-path-requires
+find-path-requires c κs =
+    let pre = c .before .before .before .before .before .before .before .before .before .before .before .before .before .before .before .pre in
+    (pre .0, (pre .1 .0, (pre .1 .1 .0, pre .1 .1 .1 .1)))
 
-mate-of-requires : tie.Need-mate-of-requires
-mate-of-requires c κs =
-    let search = c .before .before .before .before .before .before .before .before .before .before .before .search in
-    source-small _ _ _ _ _ _ _ _ _ (search .ensures)
+enum-told : tie.Need-enum-told
+enum-told c = search needs
 
-restore-requires : tie.Need-restore-requires
-restore-requires c κs =
-    let search = c .before .before .before .before .before .before .before .before .before .before .before .before .before .before .before .search in
-    let if1 = c .before .before .before .before .if1 in
-    let mate-of = c .before .before .before .mate-of in
-    let pre = c .before .before .before .before .before .before .before .before .before .before .before .before .before .before .before .before .before .before .before .before .before .before .before .before .before .before .before .before .before .before .pre in
-    restorable _ _ _ _ _ _ _ _ _ (search .ensures) (if1 .taken) _ (mate-of .ensures) _ (pre .1 .1 .1 .1)
+enum-told-2 : tie.Need-enum-told-2
+enum-told-2 c = search needs
 
 same-length : tie.Need-same-length
 same-length c = search needs
@@ -42,19 +36,15 @@ same-length-6 c = search needs
 
 returns : tie.Need-returns
 returns c =
-    let search = c .before .before .before .before .before .before .before .before .before .before .before .before .before .before .before .before .before .before .search in
-    let if1 = c .before .before .before .before .before .before .before .if1 in
-    let mate-of = c .before .before .before .before .before .before .mate-of in
-    let pre = c .before .before .before .before .before .before .before .before .before .before .before .before .before .before .before .before .before .before .before .before .before .before .before .before .before .before .before .before .before .before .before .before .before .pre in
-    let restore = c .before .before .restore in
-    answers-path _ _ _ _ _ _ _ _ _ (search .ensures) (if1 .taken) _ (mate-of .ensures) _ _ _ (pre .1 .1 .1 .1) (restore .ensures)
+    let find-path = c .before .before .before .before .before .before .before .before .before .before .before .before .before .before .find-path in
+    path-answered _ _ _ _ _ _ _ _ _ _ (find-path .result) _ _ (c .enum-told2 .given .1) (find-path .ensures)
 
 classes-requires : tie.Need-classes-requires
 classes-requires c κs =
-    let search = c .before .before .before .before .before .before .before .before .before .before .before .before .before .before .before .before .search in
-    let if1 = c .before .before .before .before .before .if1 in
-    let pre = c .before .before .before .before .before .before .before .before .before .before .before .before .before .before .before .before .before .before .before .before .before .before .before .before .before .before .before .before .before .before .before .pre in
-    (barred _ _ _ _ _ _ _ _ _ (search .ensures) (if1 .left), (search .ensures .clear, pre .1 .1 .1 .0))
+    let pre = c .before .before .before .before .before .before .before .before .before .before .before .before .before .before .before .before .before .before .before .before .before .before .before .before .before .before .before .before .before .before .before .before .before .before .before .pre in
+    let find-path = c .before .before .before .before .before .before .before .before .before .before .before .before .before .before .before .before .before .before .before .find-path in
+    let none = sought-none _ _ _ _ _ _ _ _ _ _ (find-path .result) (c .before .before .before .before .before .enum-told .given .1) (find-path .ensures) in
+    (none .1, (none .2, pre .1 .1 .1 .0))
 
 same-length-7 : tie.Need-same-length-7
 same-length-7 c = search needs
@@ -74,20 +64,23 @@ same-length-11 c = search needs
 same-length-12 : tie.Need-same-length-12
 same-length-12 c = search needs
 
+same-length-13 : tie.Need-same-length-13
+same-length-13 c = search needs
+
 returns-2 : tie.Need-returns-2
 returns-2 c =
-    let search = c .before .before .before .before .before .before .before .before .before .before .before .before .before .before .before .before .before .before .before .before .before .search in
-    let if1 = c .before .before .before .before .before .before .before .before .before .before .if1 in
+    let find-path = c .before .before .before .before .before .before .before .before .before .before .before .before .before .before .before .before .before .before .before .before .before .before .before .before .find-path in
     let classes = c .before .before .before .before .classes in
-    answers-barrier _ _ _ _ _ _ _ _ _ (search .ensures) (if1 .left) _ (classes .ensures)
+    let none = sought-none _ _ _ _ _ _ _ _ _ _ (find-path .result) (c .before .before .before .before .before .before .before .before .before .before .enum-told .given .1) (find-path .ensures) in
+    (no-path _ _ _ _ _ _ _ (none .1), none .0, classes .ensures)
 
 pub answer-in-spec : {M : Type 1} → statement M
 answer-in-spec =
     tie.close
     (tie.spec
-    search-requires
-    mate-of-requires
-    restore-requires
+    find-path-requires
+    enum-told
+    enum-told-2
     same-length
     same-length-2
     same-length-3
@@ -102,4 +95,5 @@ answer-in-spec =
     same-length-10
     same-length-11
     same-length-12
+    same-length-13
     returns-2)

@@ -3,7 +3,6 @@ use mathlib.Core.Path.{sym}
 use native.Mathlib.Omega.{arith}
 use lib.Seq.{length-take-le}
 use Rattle.arcs.specs.Table.{graphOf}
-use Rattle.search.proofs.States.{cleared}
 use Rattle.search.proofs.Answers.{front-clear}
 use borrow.Author.Needs.{needs}
 use Rattle.search.proofs.answer.path_or_barrier.Statement.{statement}
@@ -12,53 +11,58 @@ use Rattle.search.proofs.answer.path_or_barrier.Tie as tie
 mul-nodes : tie.Need-mul-nodes
 mul-nodes c = search needs
 
-clear-requires : tie.Need-clear-requires
-clear-requires c κs = search needs
+array-borrow-prefix-birth : tie.Need-array-borrow-prefix-birth
+array-borrow-prefix-birth c = search needs
+
+slice-aggregate-answer-in : tie.Need-slice-aggregate-answer-in
+slice-aggregate-answer-in c =
+    let pre = c .before .before .before .before .before .pre in
+    sym (length-take-le _ _ (omega (arith, pre .0 .pairs-few)))
 
 array-borrow-prefix-via : tie.Need-array-borrow-prefix-via
 array-borrow-prefix-via c = search needs
 
-slice-aggregate-answer-in : tie.Need-slice-aggregate-answer-in
-slice-aggregate-answer-in c =
-    let pre = c .before .before .before .before .before .before .before .before .before .before .before .pre in
+slice-aggregate-answer-in-2 : tie.Need-slice-aggregate-answer-in-2
+slice-aggregate-answer-in-2 c =
+    let pre = c .before .before .before .before .before .before .pre in
     sym (length-take-le _ _ (omega (arith, pre .0 .pairs-few)))
 
 array-borrow-prefix-base : tie.Need-array-borrow-prefix-base
 array-borrow-prefix-base c = search needs
 
-slice-aggregate-answer-in-2 : tie.Need-slice-aggregate-answer-in-2
-slice-aggregate-answer-in-2 c =
-    let pre = c .before .before .before .before .before .before .before .before .before .before .before .before .pre in
+slice-aggregate-answer-in-3 : tie.Need-slice-aggregate-answer-in-3
+slice-aggregate-answer-in-3 c =
+    let pre = c .before .before .before .before .before .before .before .pre in
     sym (length-take-le _ _ (omega (arith, pre .0 .pairs-few)))
 
 array-borrow-prefix-mark : tie.Need-array-borrow-prefix-mark
 array-borrow-prefix-mark c = search needs
 
-slice-aggregate-answer-in-3 : tie.Need-slice-aggregate-answer-in-3
-slice-aggregate-answer-in-3 c =
-    let pre = c .before .before .before .before .before .before .before .before .before .before .before .before .before .pre in
+slice-aggregate-answer-in-4 : tie.Need-slice-aggregate-answer-in-4
+slice-aggregate-answer-in-4 c =
+    let pre = c .before .before .before .before .before .before .before .before .pre in
     sym (length-take-le _ _ (omega (arith, pre .0 .pairs-few)))
 
 array-borrow-prefix-queue : tie.Need-array-borrow-prefix-queue
 array-borrow-prefix-queue c = search needs
 
-slice-aggregate-answer-in-4 : tie.Need-slice-aggregate-answer-in-4
-slice-aggregate-answer-in-4 c =
-    let pre = c .before .before .before .before .before .before .before .before .before .before .before .before .before .before .pre in
+slice-aggregate-answer-in-5 : tie.Need-slice-aggregate-answer-in-5
+slice-aggregate-answer-in-5 c =
+    let pre = c .before .before .before .before .before .before .before .before .before .pre in
     sym (length-take-le _ _ (omega (arith, pre .0 .pairs-few)))
 
 answer-in-requires : tie.Need-answer-in-requires
 answer-in-requires c κs =
-    let args = c .before .before .before .before .before .before .before .before .before .before .before .before .before .before .before .before .args in
-    let pre = c .before .before .before .before .before .before .before .before .before .before .before .before .before .before .before .before .pre in
-    let clear = c .before .before .before .before .before .before .before .before .before .clear in
-    let g = graphOf (args .pairs) (args .source) (args .tails .now) (args .heads .now) in (
+    let args = c .before .before .before .before .before .before .before .before .before .before .before .args in
+    let pre = c .before .before .before .before .before .before .before .before .before .before .before .pre in
+    let g = graphOf (args .pairs) (args .source) (args .tails .now) (args .heads .now) in
+    let clear = front-clear g 256 (omega (arith, pre .0 .pairs-few)) in (
       pre .0,
       (
-        (cleared g (args .reached .now) _ (pre .1 .0) (clear .ensures), front-clear g 256 (omega (arith, pre .0 .pairs-few))),
+        (clear, clear),
         (
           (length-take-le _ _ (omega (arith, pre .0 .pairs-few)), length-take-le _ _ (omega (arith, pre .0 .pairs-few)), length-take-le _ _ (omega (arith, pre .0 .pairs-few))),
-          (pre .1 .1, pre .1 .2),
+          pre .1,
         ),
       ),
     )
@@ -69,30 +73,25 @@ same-length c = search needs
 same-length-2 : tie.Need-same-length-2
 same-length-2 c = search needs
 
-same-length-3 : tie.Need-same-length-3
-same-length-3 c = search needs
-
 returns : tie.Need-returns
-returns c =
-    let answer-in = c .before .before .before .before .before .before .before .before .before .before .answer-in in
-    answer-in .ensures
+returns c = search needs
 
 pub path-or-barrier-spec : {M : Type 1} → statement M
 path-or-barrier-spec =
     tie.close
     (tie.spec
     mul-nodes
-    clear-requires
-    array-borrow-prefix-via
+    array-borrow-prefix-birth
     slice-aggregate-answer-in
-    array-borrow-prefix-base
+    array-borrow-prefix-via
     slice-aggregate-answer-in-2
-    array-borrow-prefix-mark
+    array-borrow-prefix-base
     slice-aggregate-answer-in-3
-    array-borrow-prefix-queue
+    array-borrow-prefix-mark
     slice-aggregate-answer-in-4
+    array-borrow-prefix-queue
+    slice-aggregate-answer-in-5
     answer-in-requires
     same-length
     same-length-2
-    same-length-3
     returns)
