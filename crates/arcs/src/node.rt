@@ -1,4 +1,6 @@
 // Nodes and arcs by number.
+//   wide, narrow    a node as an index, and as a byte
+//   mate_of         the mate of a node or an arc
 ghost use mathlib.Core.Path.{_≡_};
 ghost use Prim.Native.Nat.{_<_};
 ghost use Rattle.skew.specs.Graph.{mate};

@@ -1,4 +1,8 @@
 // Is a table of classes a barrier? (document 01, "The barrier"; document 03, isBarrier)
+//   mate_class, mates_agree       mates are in classes that are mates
+//   classes_fit, arcs_fit         no arc goes where none may
+//   count_entries, largest, all_entered    one arc from A into each Xi
+//   is_barrier                    all of these, and the source in A
 ghost use mathlib.Core.Path.{_≡_};
 ghost use Prim.Native.Nat.{ℕ, _*_, _%_, _≤_, _<_};
 ghost use lib.ListN.{length, getD};
@@ -28,6 +32,7 @@ fn mates_agree(classes: &[u8]) -> bool
     ensures { λ r. ⌜ r ≡ all (matesAgree (now (classes .entry))) (below (length (now (classes .entry)))) ⌝ }
 {
     let mut v: usize = 0;
+    // invariant: proofs/Judging Judged matesAgree; falls: nodes left
     while v < classes.len() {
         let m = mate_of(v);
         if classes[m] != mate_class(classes[v]) {
@@ -65,6 +70,7 @@ fn arcs_fit(tails: &[u8], heads: &[u8], classes: &[u8]) -> bool
     ensures { λ r. ⌜ r ≡ all (arcFits (now (classes .entry))) (arcsOf (now (tails .entry)) (now (heads .entry))) ⌝ }
 {
     let mut i: usize = 0;
+    // invariant: proofs/Judging Judged arcFits; falls: arcs left
     while i < tails.len() {
         let t = wide(tails[i]);
         let h = wide(heads[i]);
@@ -84,6 +90,7 @@ fn count_entries(tails: &[u8], heads: &[u8], classes: &[u8]) -> [u16; 256]
 {
     let mut entries = [0u16; 256];
     let mut i: usize = 0;
+    // invariant: specs/Barriers Counting; falls: arcs left
     while i < tails.len() {
         let t = wide(tails[i]);
         let h = wide(heads[i]);
@@ -101,6 +108,7 @@ fn largest(classes: &[u8]) -> u8
 {
     let mut top: u8 = 0;
     let mut k = classes.len();
+    // invariant: top is the largest class from k on; falls: k
     while 0 < k {
         k -= 1;
         if top < classes[k] {
@@ -116,6 +124,7 @@ fn all_entered(top: u8, entries: &[u16; 256]) -> bool
 {
     let last = wide(top);
     let mut c: usize = 3;
+    // invariant: proofs/Judging Judged enteredOnce; falls: classes left
     while c <= last {
         if entries[c] != 1 {
             return false; // entered never, or twice

@@ -1,4 +1,5 @@
 // Is a run of arcs a regular path from the source to its mate? (document 01, "The graph"; document 03, isWanted)
+//   is_wanted     judged arc by arc, with a table of nodes seen and one of arcs used
 ghost use mathlib.Core.Path.{_≡_};
 ghost use Prim.Native.Nat.{ℕ, _<_};
 ghost use lib.ListN.{length, getD};
@@ -18,6 +19,7 @@ pub fn is_wanted(pairs: usize, source: usize, tails: &[u8], heads: &[u8], path: 
     seen[source] = 1;
     let mut at = source;
     let mut k: usize = 0;
+    // invariant: specs/Walks Walking; falls: arcs left
     while k < path.len() {
         let i = path[k] as usize;
         if wide(tails[i]) != at {

@@ -27,6 +27,7 @@ fn root_of(
     ensures { λ r. ⌜ RootFound pairs source (now (tails .entry)) (now (heads .entry)) (now (birth .entry)) (now (via .entry)) (now (base .entry)) v r ⌝ }
 {
     let mut b = base[v / 2];
+    // invariant: proofs/Roots RootAscent; falls: the birth number of b
     loop {
         let e = via[b];
         let x = wide(tails[e]);
@@ -97,6 +98,7 @@ pub fn classes(
 {
     let mut next: usize = 3;
     let mut v: usize = 0;
+    // invariant: specs/ClassTable Classing; falls: nodes left
     while v < birth.len() {
         next = class_at(
             pairs,

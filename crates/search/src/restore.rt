@@ -14,6 +14,7 @@ fn mate_reverse(arcs: &mut [usize], from: usize, to: usize)
 {
     let mut a = from;
     let mut b = to;
+    // invariant: proofs/Reverses Reversing; falls: b - a
     while a < b {
         b -= 1;
         let x = mate_of(arcs[a]);

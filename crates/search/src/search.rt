@@ -1,7 +1,11 @@
 // The search for a regular path from the source to its mate (document 000, section 2.3): a queue of reached nodes, each node's arcs looked at once.
-//   next_arc      finds a node's arcs, one after the other
+//   Progress      the clock and the number of nodes in the queue
+//   enqueue       the nodes that an event reached, put into the queue
+//   is_settled    does an arc between reached nodes ask for no step?
 //   look          the step that an arc asks for
+//   next_arc      finds a node's arcs, one after the other
 //   scan          a node's arcs looked at
+//   reset_bases, start    the source alone is reached
 //   search        node by node, until the source's mate is reached or every reached node is scanned
 ghost use mathlib.Core.Path.{_≡_};
 ghost use Prim.Native.Nat.{_+_, _*_, _≤_, _<_};
@@ -29,6 +33,7 @@ fn enqueue(birth: &[usize], clock: usize, queue: &mut [usize], count: usize) -> 
 {
     let mut m = count;
     let mut v: usize = 0;
+    // invariant: specs/Queue Enqueued; falls: nodes left
     while v < birth.len() {
         if birth[v] == clock {
             queue[m] = v;
@@ -137,6 +142,7 @@ fn next_arc(tails: &[u8], x: usize, from: usize) -> usize
     ensures { λ r. ⌜ NextArc (now (tails .entry)) x from r ⌝ }
 {
     let mut i = from;
+    // invariant: no arc of x from `from` to i; falls: arcs left
     while i < tails.len() {
         if wide(tails[i]) == x {
             return i;
@@ -167,6 +173,7 @@ fn scan(
     let x = queue[taken];
     let mut r = p;
     let mut i = next_arc(tails, x, 0);
+    // invariant: specs/Queue Scanned; falls: arcs left
     while i < tails.len() {
         r = look(
             pairs,
@@ -192,6 +199,7 @@ fn reset_bases(base: &mut [usize])
     ensures { λ _. ⌜ Mapped doubled (now (base .entry)) (now (base .exit)) (length (now (base .entry))) ⌝ }
 {
     let mut k: usize = 0;
+    // invariant: specs/Steps Mapped doubled; falls: mate pairs left
     while k < base.len() {
         base[k] = 2 * k;
         k += 1;
@@ -243,6 +251,7 @@ pub fn search(
     let goal = mate_of(source);
     let mut p = Progress { clock: 2, count: 1 };
     let mut taken: usize = 0;
+    // invariant: specs/Queue Searching; falls: nodes not taken
     loop {
         if birth[goal] != 0 {
             return true;

@@ -1,5 +1,9 @@
 // The two steps of a search on its tables (document 000, section 2.3): birth and via by node, base by mate pair, a mark for each absorbed base.
 //   tree_step       an arc reaches its head
+//   birth_after, base_after            a node's birth number and base after a bud step
+//   reach_absorbed, rebase_absorbed    the same in the tables
+//   clear           a table of zeros
+//   label, absorb   a label for a new node; a base marked, and the way up from it
 //   ascend          from the two ends of an arc up to the base that absorbs the others
 //   bud_step        a bud is formed: the absorbed fragments are reached and get its base
 ghost use mathlib.Core.Path.{_≡_};
@@ -62,6 +66,7 @@ fn reach_absorbed(birth: &mut [usize], base: &[usize], mark: &[usize], clock: us
     ensures { λ _. ⌜ Mapped (birthsAfter (now (base .entry)) (now (mark .entry)) clock) (now (birth .entry)) (now (birth .exit)) (length (now (birth .entry))) ⌝ }
 {
     let mut v: usize = 0;
+    // invariant: specs/Steps Mapped birthsAfter; falls: nodes left
     while v < birth.len() {
         let b = base[v / 2];
         birth[v] = birth_after(birth[v], mark[b], clock);
@@ -75,6 +80,7 @@ fn rebase_absorbed(base: &mut [usize], mark: &[usize], to: usize)
     ensures { λ _. ⌜ Mapped (basesAfter (now (mark .entry)) to) (now (base .entry)) (now (base .exit)) (length (now (base .entry))) ⌝ }
 {
     let mut k: usize = 0;
+    // invariant: specs/Steps Mapped basesAfter; falls: mate pairs left
     while k < base.len() {
         let b = base[k];
         base[k] = base_after(b, mark[b], to);
@@ -86,6 +92,7 @@ pub fn clear(mark: &mut [usize])
     ensures { λ _. ⌜ Mapped zeroed (now (mark .entry)) (now (mark .exit)) (length (now (mark .entry))) ⌝ }
 {
     let mut k: usize = 0;
+    // invariant: specs/Steps Mapped zeroed; falls: places left
     while k < mark.len() {
         mark[k] = 0;
         k += 1;
@@ -145,6 +152,7 @@ fn ascend(
     let z = mate_of(wide(heads[i]));
     let mut p = base[v / 2];
     let mut q = base[z / 2];
+    // invariant: proofs/Ascents Ascending; falls: the sum of the birth numbers of p and q
     while p != q {
         let birth_p = birth[p];
         let birth_q = birth[q];
