@@ -15,6 +15,7 @@ use lib.Seq.{getD-set-same, getD-set-other}
 use borrow.Author.Tests.{eqb-true, eqb-false, eq-eqb, ne-eqb, ltb-true, lt-ltb, ltb-false}
 use Rattle.counting.specs.Tests.{pick}
 use Rattle.counting.proofs.Booleans.{by-test, true-false, same-or}
+use Rattle.counting.proofs.Membership.{getD-default}
 use Rattle.skew.specs.Graph.{Graph, mate, nodes}
 use Rattle.skew.specs.Search.{State}
 use Rattle.skew.specs.Steps.{BudStep}
@@ -25,7 +26,7 @@ use Rattle.skew.proofs.Settled.{bud-step-settled, bud-step-settles}
 use Rattle.arcs.specs.Table.{graphOf}
 use Rattle.search.specs.State.{stateOf, StateHeld, SearchHeld, marksOf, viasOf}
 use Rattle.search.specs.Steps.{Mapped, birthAfter, birthsAfter, basesAfter, zeroed, Bridging, Ascended, bornBefore, BudStepped}
-use Rattle.search.proofs.States.{getD-any, not-reached, reached-is, unreached-is, base-at, reached-is-node, cleared}
+use Rattle.search.proofs.States.{not-reached, reached-is, unreached-is, base-at, reached-is-node, cleared}
 
 module _ (n s : ℕ) (ts hs bs vs ss : List ℕ) (k d i : ℕ) (vs′ ms : List ℕ) (S : SearchHeld n s ts hs bs vs ss k)
     (A : Ascended (graphOf n s ts hs) (stateOf bs vs ss k) i vs′ ms d) where
@@ -142,7 +143,7 @@ module _ (n s : ℕ) (ts hs bs vs ss : List ℕ) (k d i : ℕ) (vs′ ms : List 
     base-mapped : (u : ℕ) → u < nodes g → getD ss′ (u / 2) (u - u % 2) ≡ basesAfter ms d (u / 2) (getD ss (u / 2) 0)
     base-mapped u l =
         let h : u / 2 < length ss = omega (arith, H .bases-long) in
-        getD-any ss′ (u / 2) (u - u % 2) 0 (omega (arith, MS .long)) ∙ MS .done (u / 2) h
+        getD-default ss′ (u / 2) (u - u % 2) 0 (omega (arith, MS .long)) ∙ MS .done (u / 2) h
 
     step : BudStep st C d (viasOf vs′) new
     step =

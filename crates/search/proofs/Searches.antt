@@ -22,12 +22,12 @@ use Rattle.counting.specs.Tests.{among}
 use Rattle.counting.specs.Lists.{In}
 use Rattle.counting.specs.Sums.{sum}
 use Rattle.counting.proofs.Booleans.{by-test, true-false, same-or}
-use Rattle.counting.proofs.Membership.{among-in, in-among, in-append}
+use Rattle.counting.proofs.Membership.{getD-default, among-in, in-among, in-append}
 use Rattle.skew.specs.Graph.{Graph, mate}
 use Rattle.skew.specs.Search.{State, Started}
 use Rattle.skew.specs.Measure.{weight}
 use Rattle.skew.specs.Scan.{Scanning}
-use Rattle.skew.proofs.Mates.{mate-below}
+use Rattle.skew.proofs.Mates.{mate-below, mate-half, half-pair}
 use Rattle.skew.proofs.Measure.{weigh-two}
 use Rattle.skew.proofs.Start.{start-keeps}
 use Rattle.skew.proofs.Scan.{scan-past, scan-look, scan-done, scan-switch, scan-start, scan-closed}
@@ -36,7 +36,7 @@ use Rattle.search.specs.State.{stateOf, Clear}
 use Rattle.search.specs.Steps.{Mapped}
 use Rattle.search.specs.Queue.{Leaving, Looked, NextArc, takenOf, Searching, Scanned, doubled, Ended}
 use Rattle.arcs.proofs.Tables.{tail-is, arc-in, arcs-length}
-use Rattle.search.proofs.States.{getD-any, is-reached, not-reached, mate-half, half-pair}
+use Rattle.search.proofs.States.{is-reached, not-reached}
 use Rattle.search.proofs.Queues.{enqueued-none, enqueued-add, kept-short}
 
 pub others-more : (ts : List ℕ) (x a i : ℕ) → ((j : ℕ) → a ≤ j → j < i → getD ts j 0 ≡ x → ⊥) → (getD ts i 0 ≡ x → ⊥) →
@@ -220,7 +220,7 @@ module _ (n s : ℕ) (ts hs : List ℕ) where
         lower : (u : ℕ) → getD ss₀ (u / 2) (u - u % 2) ≡ u - u % 2
         lower u =
             by-test (ltb (u / 2) (length ss))
-            (λ t. getD-any ss₀ (u / 2) (u - u % 2) 0 (omega (arith, MS .long, ltb-true (u / 2) (length ss) t)) ∙ MS .done (u / 2) (ltb-true (u / 2) (length ss) t) ∙ omega arith)
+            (λ t. getD-default ss₀ (u / 2) (u - u % 2) 0 (omega (arith, MS .long, ltb-true (u / 2) (length ss) t)) ∙ MS .done (u / 2) (ltb-true (u / 2) (length ss) t) ∙ omega arith)
             (λ t. List·getD-eq-default ss₀ (u - u % 2) (omega (arith, MS .long, ltb-false (u / 2) (length ss) t)))
 
     pub search-starts : Searching n s ts hs bs′ vs′ ss′ ms (set q 0 s) 2 1 0

@@ -1,30 +1,22 @@
 -- The tables as a state: what is read off them.
---   getD-any                                within a list the default is not read
 --   is-reached, not-reached                 birth numbers and reached nodes
 --   reached-is, unreached-is                the same, the other way round
---   mate-half, half-pair                    a node and its mate have one place in the table of bases
---   base-at, base-is-node, reached-is-node  a node's base; reached nodes are nodes
+--   base-at, reached-is-node                a node's base; reached nodes are nodes
 --   cleared                                 a table filled with zeros is clear
 use mathlib.Core.Path.{_≡_, refl, _∙_}
-use mathlib.Core.Logic.{_⊎_, inl, inr}
 use mathlib.Core.Bool.{true, false}
-use mathlib.Core.List.{List, [], _∷_}
+use mathlib.Core.List.{List}
 use Prim.Native.Nat.{ℕ, zero, suc, _-_, _/_, _%_, _<_}
 use native.Mathlib.Omega.{arith}
 use lib.Dec.{ltb}
 use lib.ListN.{length, getD, List·getD-eq-default}
 use borrow.Author.Tests.{ltb-true, lt-ltb, ltb-false, le-ltb}
 use Rattle.counting.proofs.Booleans.{by-test, true-false}
-use Rattle.skew.specs.Graph.{Graph, mate, nodes}
+use Rattle.counting.proofs.Membership.{getD-default}
+use Rattle.skew.specs.Graph.{Graph, nodes}
 use Rattle.skew.specs.Search.{State}
-use Rattle.skew.proofs.Mates.{mate-is}
 use Rattle.search.specs.State.{stateOf, StateHeld, Clear}
 use Rattle.search.specs.Steps.{Mapped, zeroed}
-
-pub getD-any : (l : List ℕ) (i a b : ℕ) → i < length l → getD l i a ≡ getD l i b
-getD-any [] i a b h = absurd (omega arith)
-getD-any (x ∷ xs) zero a b h = refl
-getD-any (x ∷ xs) (suc i) a b h = getD-any xs i a b (omega arith)
 
 pub is-reached : (b : ℕ) → (b ≡ 0 → ⊥) → ltb 0 b ≡ true
 is-reached zero n = absurd (n refl)
@@ -39,27 +31,12 @@ reached-is b q = ltb-true 0 b q
 pub unreached-is : (b : ℕ) → ltb 0 b ≡ false → b ≡ 0
 unreached-is b q = omega (arith, ltb-false 0 b q)
 
-pub mate-half : (v : ℕ) → mate v / 2 ≡ v / 2
-mate-half v = omega (arith, mate-is v)
-
-pub half-pair : (u w : ℕ) → u / 2 ≡ w / 2 → (u ≡ w) ⊎ (u ≡ mate w)
-half-pair u w q = go (u % 2) (w % 2) refl refl
-  where
-    go : (a b : ℕ) → u % 2 ≡ a → w % 2 ≡ b → (u ≡ w) ⊎ (u ≡ mate w)
-    go zero zero x y = inl (omega arith)
-    go (suc a) zero x y = inr (omega (arith, mate-is w))
-    go zero (suc b) x y = inr (omega (arith, mate-is w))
-    go (suc a) (suc b) x y = inl (omega arith)
-
 module _ (g : Graph) (bs vs ss : List ℕ) (k : ℕ) (H : StateHeld g bs vs ss k) where
   abbrev st : State
   st = stateOf bs vs ss k
 
   pub base-at : (v : ℕ) → v < nodes g → st .base v ≡ getD ss (v / 2) 0
-  base-at v h = getD-any ss (v / 2) (v - v % 2) 0 (omega (arith, H .bases-long))
-
-  pub base-is-node : (v : ℕ) → v < nodes g → st .base v < nodes g
-  base-is-node v h = rw (base-at v h) (H .base-node (v / 2) (omega arith))
+  base-at v h = getD-default ss (v / 2) (v - v % 2) 0 (omega (arith, H .bases-long))
 
   pub reached-is-node : (v : ℕ) → st .reached v ≡ true → v < nodes g
   reached-is-node v l =

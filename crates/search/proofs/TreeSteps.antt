@@ -14,13 +14,13 @@ use Rattle.skew.specs.Graph.{Graph, mate, nodes}
 use Rattle.skew.specs.Paths.{head}
 use Rattle.skew.specs.Search.{State}
 use Rattle.skew.specs.Steps.{TreeStep}
+use Rattle.skew.proofs.Mates.{mate-half, half-pair}
 use Rattle.skew.proofs.TreeStep.{tree-step-keeps}
 use Rattle.skew.proofs.Measure.{tree-step-less}
 use Rattle.arcs.specs.Table.{graphOf}
 use Rattle.search.specs.State.{stateOf, StateHeld, SearchHeld}
 use Rattle.search.specs.Steps.{NewHead, TreeStepped}
 use Rattle.arcs.proofs.Tables.{head-is, in-arcs}
-use Rattle.search.proofs.States.{mate-half, half-pair}
 
 module _ (n s : ℕ) (ts hs bs vs ss : List ℕ) (k i : ℕ) (S : SearchHeld n s ts hs bs vs ss k) (N : NewHead (graphOf n s ts hs) (stateOf bs vs ss k) i) where
   abbrev g : Graph

@@ -2,13 +2,14 @@
 --   mate-is                                    the mate by arithmetic
 --   mate-mate, mate-other, mate-inj            an involution without fixed points
 --   mate-below                                 it keeps an even bound
+--   mate-half, half-pair                       a pair's two numbers have one half
 --   pair-or-other, pair-mate, other-mate       a node is one of a pair or neither, and so its mate
 --   AreMates, arcs-mates                       matesFit: each arc's mate is its neighbour
 use mathlib.Core.Path.{_≡_, refl, sym, ap, _∙_}
 use mathlib.Core.Logic.{_⊎_, inl, inr, _≢_, ⊎-elim}
 use mathlib.Core.Bool.{Bool, true, false}
 use mathlib.Core.List.{List, [], _∷_}
-use Prim.Native.Nat.{ℕ, zero, suc, _+_, _*_, _-_, _%_, _<_}
+use Prim.Native.Nat.{ℕ, zero, suc, _+_, _*_, _-_, _/_, _%_, _<_}
 use native.Mathlib.Omega.{arith}
 use lib.Dec.{eqb}
 use lib.ListN.{length, getD}
@@ -41,6 +42,18 @@ mate-suc-suc : (v : ℕ) → mate (suc (suc v)) ≡ suc (suc (mate v))
 mate-suc-suc v = omega (arith, mate-is v, mate-is (suc (suc v)))
 
 -- A NODE'S PAIR
+pub mate-half : (v : ℕ) → mate v / 2 ≡ v / 2
+mate-half v = omega (arith, mate-is v)
+
+pub half-pair : (u w : ℕ) → u / 2 ≡ w / 2 → (u ≡ w) ⊎ (u ≡ mate w)
+half-pair u w q = go (u % 2) (w % 2) refl refl
+  where
+    go : (a b : ℕ) → u % 2 ≡ a → w % 2 ≡ b → (u ≡ w) ⊎ (u ≡ mate w)
+    go zero zero x y = inl (omega arith)
+    go (suc a) zero x y = inr (omega (arith, mate-is w))
+    go zero (suc b) x y = inr (omega (arith, mate-is w))
+    go (suc a) (suc b) x y = inl (omega arith)
+
 pub pair-or-other : (w u : ℕ) → ((u ≡ w) ⊎ (u ≡ mate w)) ⊎ ((u ≢ w) × (u ≢ mate w))
 pair-or-other w u =
     ⊎-elim (λ a. inl (inl a)) (λ a. ⊎-elim (λ b. inl (inr b)) (λ b. inr (a, b)) (same-or u (mate w))) (same-or u w)
