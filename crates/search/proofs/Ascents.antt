@@ -24,7 +24,7 @@ use Rattle.skew.proofs.Mates.{mate-mate, mate-below}
 use Rattle.skew.proofs.Mirror.{bridge-mirror, ascent-mirror}
 use Rattle.skew.proofs.Ascent.{ascent-at, ascent-absorb, ascent-arc, ascent-same}
 use Rattle.arcs.specs.Table.{graphOf}
-use Rattle.search.specs.State.{stateOf, SearchHeld, Clear, marksOf, viasOf}
+use Rattle.search.specs.State.{stateOf, SearchHeld, Clear, absorbedIn, viasOf}
 use Rattle.search.specs.Steps.{Bridging, labelled, Absorbs, Absorbed, Ascended}
 use Rattle.arcs.proofs.Tables.{tail-is, head-is, in-arcs, tail-node, head-node}
 use Rattle.search.proofs.States.{base-at, reached-is-node, unreached-is, not-reached}
@@ -79,12 +79,12 @@ module _ (n s : ℕ) (ts hs bs vs ss : List ℕ) (k : ℕ) (S : SearchHeld n s t
     pub at-v : st .base v ≡ p
     pub at-z : st .base z ≡ q
     pub bridge : Bridge g st e v₀ z₀
-    pub ascent : Ascent g st (marksOf ms) (viasOf vs′) e v₀ z₀ v z
+    pub ascent : Ascent g st (absorbedIn ms) (viasOf vs′) e v₀ z₀ v z
     pub vias-long : length vs′ ≡ nodes g
     pub marks-long : length ms ≡ nodes g
-    pub parents : (b : ℕ) → marksOf ms b ≡ true → (marksOf ms (parentBase g st b) ≡ true) ⊎ ((parentBase g st b ≡ p) ⊎ (parentBase g st b ≡ q))
-    pub in-v : (marksOf ms (st .base v₀) ≡ true) ⊎ (st .base v₀ ≡ p)
-    pub in-z : (marksOf ms (st .base z₀) ≡ true) ⊎ (st .base z₀ ≡ q)
+    pub parents : (b : ℕ) → absorbedIn ms b ≡ true → (absorbedIn ms (parentBase g st b) ≡ true) ⊎ ((parentBase g st b ≡ p) ⊎ (parentBase g st b ≡ q))
+    pub in-v : (absorbedIn ms (st .base v₀) ≡ true) ⊎ (st .base v₀ ≡ p)
+    pub in-z : (absorbedIn ms (st .base z₀) ≡ true) ⊎ (st .base z₀ ≡ q)
 
   -- the end at q goes up
   record Raised (vs″ ms″ : List ℕ) (e v₀ z₀ p q : ℕ) : Type 0 where
@@ -104,8 +104,8 @@ module _ (n s : ℕ) (ts hs bs vs ss : List ℕ) (k : ℕ) (S : SearchHeld n s t
       record { is-node = reached-is-node g bs vs ss k (S .state) b (r .reached); is-base = r }
 
   module _ (vs′ ms : List ℕ) (e v₀ z₀ p q : ℕ) (c : Between vs′ ms e v₀ z₀ p q) where
-    ends : AscentEnds st (marksOf ms) (viasOf vs′) (c .v) (c .z)
-    ends = ascent-at g sym-g st I (marksOf ms) (viasOf vs′) e v₀ z₀ (c .v) (c .z) (c .bridge) (c .ascent)
+    ends : AscentEnds st (absorbedIn ms) (viasOf vs′) (c .v) (c .z)
+    ends = ascent-at g sym-g st I (absorbedIn ms) (viasOf vs′) e v₀ z₀ (c .v) (c .z) (c .bridge) (c .ascent)
 
     base-p : BaseNode p
     base-p = to-base (c .v) p (ends .reached-v) (c .at-v)
@@ -121,7 +121,7 @@ module _ (n s : ℕ) (ts hs bs vs ss : List ℕ) (k : ℕ) (S : SearchHeld n s t
           at-v = c .at-z;
           at-z = c .at-v;
           bridge = bridge-mirror g sym-g st I e v₀ z₀ (c .bridge);
-          ascent = ascent-mirror g sym-g st I (marksOf ms) (viasOf vs′) e v₀ z₀ (c .v) (c .z) (c .ascent);
+          ascent = ascent-mirror g sym-g st I (absorbedIn ms) (viasOf vs′) e v₀ z₀ (c .v) (c .z) (c .ascent);
           vias-long = c .vias-long;
           marks-long = c .marks-long;
           parents = λ b t. ⊎-elim (λ a. inl a) (λ a. inr (⊎-elim (λ x. inr x) (λ x. inl x) a)) (c .parents b t);
@@ -151,13 +151,13 @@ module _ (n s : ℕ) (ts hs bs vs ss : List ℕ) (k : ℕ) (S : SearchHeld n s t
       via-reached : (u : ℕ) → st .reached u ≡ true → viasOf (labelled bs vs′ (mate b) e) u ≡ viasOf vs′ u
       via-reached u l = via-else u (λ f q. true-false (rw q at l) f)
 
-      via-old : marksOf ms b ≡ false → (u : ℕ) → (st .reached u ≡ true) ⊎ (marksOf ms (st .base u) ≡ true) →
+      via-old : absorbedIn ms b ≡ false → (u : ℕ) → (st .reached u ≡ true) ⊎ (absorbedIn ms (st .base u) ≡ true) →
           viasOf (labelled bs vs′ (mate b) e) u ≡ viasOf vs′ u
       via-old o u (inl l) = via-reached u l
       via-old o u (inr h) =
           via-else u (λ f q. let r : st .base u ≡ b = ap (st .base) q ∙ I .base-mate b ∙ B .is-base .self in true-false (rw r at h) o)
 
-      adds : marksOf ms b ≡ false → AddsBase st (marksOf ms) (viasOf vs′) b e (marksOf (set ms b 1)) (viasOf (labelled bs vs′ (mate b) e))
+      adds : absorbedIn ms b ≡ false → AddsBase st (absorbedIn ms) (viasOf vs′) b e (absorbedIn (set ms b 1)) (viasOf (labelled bs vs′ (mate b) e))
       adds o =
           let same : getD (set ms b 1) b 0 ≡ 1 = getD-set-same ms b 1 0 (omega (arith, c .marks-long, B .is-node)) in
           record {
@@ -174,17 +174,17 @@ module _ (n s : ℕ) (ts hs bs vs ss : List ℕ) (k : ℕ) (S : SearchHeld n s t
         let ms″ = set ms q 1 in
         let nb : st .base (c .v) ≢ st .base (c .z) = λ r. ne (sym (c .at-v) ∙ r ∙ c .at-z) in
         let lb : st .birth (st .base (c .v)) ≤ st .birth (st .base (c .z)) = rw (c .at-v, c .at-z) le in
-        let Q : AddsBase st (marksOf ms) (viasOf vs′) q e (marksOf ms″) (viasOf vs″) = adds q base-q (rw (c .at-z) at (ends .out-z)) in
-        let P : AddsBase st (marksOf ms) (viasOf vs′) (st .base (c .z)) e (marksOf ms″) (viasOf vs″) = rw (c .at-z) Q in
-        let A = ascent-absorb g sym-g st I (marksOf ms) (marksOf ms″) (viasOf vs′) (viasOf vs″) e v₀ z₀ (c .v) (c .z) (c .bridge) (c .ascent) nb lb P in
-        let B = rw (c .at-z) at (ascent-arc g sym-g st I (marksOf ms) (viasOf vs′) e v₀ z₀ (c .v) (c .z) (c .bridge) (c .ascent) nb lb) in
+        let Q : AddsBase st (absorbedIn ms) (viasOf vs′) q e (absorbedIn ms″) (viasOf vs″) = adds q base-q (rw (c .at-z) at (ends .out-z)) in
+        let P : AddsBase st (absorbedIn ms) (viasOf vs′) (st .base (c .z)) e (absorbedIn ms″) (viasOf vs″) = rw (c .at-z) Q in
+        let A = ascent-absorb g sym-g st I (absorbedIn ms) (absorbedIn ms″) (viasOf vs′) (viasOf vs″) e v₀ z₀ (c .v) (c .z) (c .bridge) (c .ascent) nb lb P in
+        let B = rw (c .at-z) at (ascent-arc g sym-g st I (absorbedIn ms) (viasOf vs′) e v₀ z₀ (c .v) (c .z) (c .bridge) (c .ascent) nb lb) in
         let ve : getD vs″ q 0 ≡ getD vs q 0 = via-reached q base-q q (base-q .is-base .reached) ∙ ends .via-old q (base-q .is-base .reached) in
         let al : getD vs q 0 < length ts = in-arcs n s ts hs (getD vs q 0) (B .is-arc) in
         let te : tail g (getD vs q 0) ≡ getD ts (getD vs q 0) 0 = tail-is n s ts hs (getD vs q 0) al in
         let x = getD ts (getD vs q 0) 0 in
         let xl : x < 2 * n = tail-node n s ts hs (S .table) (getD vs q 0) al in
         let be : st .base x ≡ getD ss (x / 2) 0 = base-at g bs vs ss k (S .state) x xl in
-        let A₂ : Ascent g st (marksOf ms″) (viasOf vs″) e v₀ z₀ (c .v) x = rw (c .at-z, te) at A in
+        let A₂ : Ascent g st (absorbedIn ms″) (viasOf vs″) e v₀ z₀ (c .v) x = rw (c .at-z, te) at A in
         let l₂ : getD bs (getD ss (x / 2) 0) 0 < getD bs q 0 = rw (te, be) at (B .base-earlier) in
         record {
           is-arc = rw ve al;
@@ -216,7 +216,7 @@ module _ (n s : ℕ) (ts hs bs vs ss : List ℕ) (k : ℕ) (S : SearchHeld n s t
         let vs″ = labelled bs vs′ (mate p) e in
         let sb : st .base (c .v) ≡ st .base (c .z) = c .at-v ∙ same ∙ sym (c .at-z) in
         let r =
-        ascent-same g sym-g st I (marksOf ms) (viasOf vs′) (viasOf vs″) e v₀ z₀ (c .v) (c .z) (c .bridge) (c .ascent) sb
+        ascent-same g sym-g st I (absorbedIn ms) (viasOf vs′) (viasOf vs″) e v₀ z₀ (c .v) (c .z) (c .bridge) (c .ascent) sb
         (λ f. rw (c .at-v) (via-new p base-p (rw (c .at-v) at f)))
         (via-old p base-p (rw (c .at-v) at (ends .out-v))) in
         record {
@@ -255,7 +255,7 @@ module _ (n s : ℕ) (ts hs bs vs ss : List ℕ) (k : ℕ) (S : SearchHeld n s t
   between-start i v₀ z₀ ms A C f z =
       let vl : v₀ < 2 * n = reached-is-node g bs vs ss k (S .state) v₀ (rw f at (A .tail-reached)) in
       let zl : z₀ < 2 * n = reached-is-node g bs vs ss k (S .state) z₀ (rw z at (A .mate-reached)) in
-      let unmarked : (u : ℕ) → marksOf ms u ≡ true → ⊥ = λ u t. eqb-false 0 1 refl (sym (C .zeros u) ∙ eqb-true _ _ t) in
+      let unmarked : (u : ℕ) → absorbedIn ms u ≡ true → ⊥ = λ u t. eqb-false 0 1 refl (sym (C .zeros u) ∙ eqb-true _ _ t) in
       record {
         v = v₀;
         z = z₀;

@@ -24,7 +24,7 @@ use Rattle.skew.proofs.BudStep.{bud-step-keeps}
 use Rattle.skew.proofs.Measure.{bud-step-less}
 use Rattle.skew.proofs.Settled.{bud-step-settled, bud-step-settles}
 use Rattle.arcs.specs.Table.{graphOf}
-use Rattle.search.specs.State.{stateOf, StateHeld, SearchHeld, marksOf, viasOf}
+use Rattle.search.specs.State.{stateOf, StateHeld, SearchHeld, absorbedIn, viasOf}
 use Rattle.search.specs.Steps.{Mapped, birthAfter, birthsAfter, basesAfter, zeroed, Bridging, Ascended, bornBefore, BudStepped}
 use Rattle.search.proofs.States.{not-reached, reached-is, unreached-is, base-at, reached-is-node, cleared}
 
@@ -40,7 +40,7 @@ module _ (n s : ℕ) (ts hs bs vs ss : List ℕ) (k d i : ℕ) (vs′ ms : List 
   H = S .state
 
   abbrev C : ℕ → Bool
-  C = marksOf ms
+  C = absorbedIn ms
 
   mate-node : mate d < nodes g
   mate-node = mate-below d (nodes g) (omega arith) (A .is-node)

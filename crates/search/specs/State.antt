@@ -3,7 +3,7 @@
 --   StateHeld g bs vs ss k      the tables hold a state with the invariant; the clock is bounded by the steps still to come
 --   SearchHeld n s ts hs ..     such a state over an arc table
 --   Clear g ms                  a table of zeros, one for each node
---   marksOf ms                  the numbers marked 1
+--   absorbedIn ms               the bases marked for absorption
 --   viasOf vs                   the labels
 use mathlib.Core.Path.{_≡_}
 use mathlib.Core.Bool.{Bool}
@@ -43,8 +43,8 @@ pub record Clear (g : Graph) (ms : List ℕ) : Type 0 where
   pub long : length ms ≡ nodes g
   pub zeros : (u : ℕ) → getD ms u 0 ≡ 0
 
-abbrev pub marksOf : (marks : List ℕ) → ℕ → Bool
-marksOf ms u = eqb (getD ms u 0) 1
+abbrev pub absorbedIn : (marks : List ℕ) → ℕ → Bool
+absorbedIn ms u = eqb (getD ms u 0) 1
 
 abbrev pub viasOf : (vias : List ℕ) → ℕ → ℕ
 viasOf vs u = getD vs u 0

@@ -24,7 +24,7 @@ use Rattle.skew.specs.Paths.{tail, head}
 use Rattle.skew.specs.Search.{State, parentBase}
 use Rattle.skew.specs.Steps.{TreeStep, Absorbable, SettledArc}
 use Rattle.skew.specs.Ascent.{Unsettled}
-use Rattle.search.specs.State.{stateOf, StateHeld, Clear, marksOf, viasOf}
+use Rattle.search.specs.State.{stateOf, StateHeld, Clear, absorbedIn, viasOf}
 
 -- LISTS MAPPED IN PLACE
 pub record Mapped (f : ℕ → ℕ → ℕ) (was now : List ℕ) (i : ℕ) : Type 0 where
@@ -83,14 +83,14 @@ pub record Absorbed (ts bs vs ss ms : List ℕ) (q e : ℕ) (vs′ ms′ : List 
   pub parent : r ≡ getD ss (getD ts (getD (labelled bs vs (mate q) e) q 0) 0 / 2) 0
 
 pub record Ascended (g : Graph) (st : State) (i : ℕ) (vs ms : List ℕ) (b : ℕ) : Type 0 where
-  pub absorbable : Absorbable g st (marksOf ms) b (viasOf vs)
-  pub some : ((c : ℕ) × (marksOf ms c ≡ true)) ⊎ (st .reached (mate b) ≡ false)
+  pub absorbable : Absorbable g st (absorbedIn ms) b (viasOf vs)
+  pub some : ((c : ℕ) × (absorbedIn ms c ≡ true)) ⊎ (st .reached (mate b) ≡ false)
   pub is-node : b < nodes g
   pub vias-long : length vs ≡ nodes g
   pub marks-long : length ms ≡ nodes g
-  pub parents : (c : ℕ) → marksOf ms c ≡ true → (marksOf ms (parentBase g st c) ≡ true) ⊎ (parentBase g st c ≡ b)
-  pub tail-in : (marksOf ms (st .base (tail g i)) ≡ true) ⊎ (st .base (tail g i) ≡ b)
-  pub head-in : (marksOf ms (st .base (head g i)) ≡ true) ⊎ (st .base (head g i) ≡ b)
+  pub parents : (c : ℕ) → absorbedIn ms c ≡ true → (absorbedIn ms (parentBase g st c) ≡ true) ⊎ (parentBase g st c ≡ b)
+  pub tail-in : (absorbedIn ms (st .base (tail g i)) ≡ true) ⊎ (st .base (tail g i) ≡ b)
+  pub head-in : (absorbedIn ms (st .base (head g i)) ≡ true) ⊎ (st .base (head g i) ≡ b)
 
 pub record Later (g : Graph) (st new : State) : Type 0 where
   pub reached-still : (u : ℕ) → st .reached u ≡ true → new .reached u ≡ true
