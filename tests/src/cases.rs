@@ -4,6 +4,7 @@
 //!   tallies                           calls in a row, with counts at and near 4,294,967,295
 //!   edges                             sizes at which a question changes its answer, and the buffer's
 //!   traps                             document 01's traps
+//!   one_of                            an answer is among those that the document allows
 //!   points_left_to_the_reader         what is decided where document 01 can be read in two ways
 
 use crate::engine::{Tally, Verdict};
@@ -25,7 +26,7 @@ fn by_trial<T: PartialEq + std::fmt::Debug>(file: &[u8], found: T, right: T) -> 
     }
 }
 
-fn one_of(name: &str, answer: &[u8], right: &[Vec<u8>]) -> Trial {
+pub fn one_of(name: &str, answer: &[u8], right: &[Vec<u8>]) -> Trial {
     if right.iter().any(|text| text == answer) {
         Ok(())
     } else {

@@ -1,4 +1,5 @@
 //! Files that are no longer, or never were, what they should be.
+//!   BYTES                      those that are put in, DIGITS of them digits
 //!   damages                    a file with one byte changed, left out or put in, at every place
 //!   damaged_certificates       the known graphs' answers so, handed to the check
 //!   damaged_files              the known graphs and stocks so
@@ -16,7 +17,9 @@ use crate::random::Random;
 use crate::reference::answer;
 
 /// All digits, the line feed, and bytes beside the digits in the table of characters and elsewhere.
-const BYTES: &[u8] = b"0123456789ABCDEF\n/:@Gagf \r\0\x7F\x80\xFF";
+pub const BYTES: &[u8] = b"0123456789ABCDEF\n/:@Gagf \r\0\x7F\x80\xFF";
+/// How many of them are digits; the line feed comes after those.
+pub const DIGITS: usize = 16;
 
 fn damages(file: &[u8]) -> Vec<Vec<u8>> {
     let mut all = Vec::new();
@@ -47,7 +50,7 @@ pub fn damaged_random_answers(judge: &mut Judge, files: usize) -> Trial {
         let graph = small_graph(&mut judge.random);
         let mut certificate = answer(&graph).file();
         let place = judge.random.below(certificate.len());
-        certificate[place] = *judge.random.choose(&BYTES[..17]);
+        certificate[place] = *judge.random.choose(&BYTES[..=DIGITS]);
         judge.certificate(&graph.file(), &certificate)
     })
 }
@@ -77,7 +80,7 @@ pub fn random_bytes(judge: &mut Judge, files: usize) -> Trial {
         while bytes.len() < length {
             match number % 3 {
                 0 => bytes.push(random.byte()),
-                1 => bytes.push(*random.choose(&BYTES[..17])),
+                1 => bytes.push(*random.choose(&BYTES[..=DIGITS])),
                 _ => bytes.extend_from_slice(frames[random.below(frames.len())]),
             }
         }

@@ -4,11 +4,13 @@
 //!   of_engine   what an engine must pass; those that cost least come first
 //!   of_programs what the programs must pass
 //!   run         one group, with a seed of its own; a panic is a failure
+//!   run_programs    the same for the programs
 
 use crate::engine::Engine;
 use crate::judge::{Judge, Seen, Trial};
-use crate::programs::{self, Programs};
-use crate::{cases, damage, exhaustive, large, self_checks, trials};
+use crate::programs::Programs;
+use crate::random::Random;
+use crate::{cases, damage, exhaustive, large, program_trials, self_checks, sizes, trials};
 use std::panic::{catch_unwind, AssertUnwindSafe};
 
 pub struct Group {
@@ -60,7 +62,8 @@ pub fn of_engine() -> Vec<Group> {
         group("middling stocks", 20, trials::middling_stocks),
         group("every graph of one or two mate pairs", 0, |judge, _| exhaustive::all_graphs(judge)),
         group("every stock of up to five cameras", 0, |judge, _| exhaustive::all_stocks(judge)),
-        group("a path of 255 arcs", 0, |judge, _| large::long_path(judge)),
+        group("paths and barriers of every size", 0, |judge, _| sizes::graphs(judge)),
+        group("sheets and plans of every size", 0, |judge, _| sizes::stocks(judge)),
         group("127 parts", 0, |judge, _| large::many_parts(judge)),
         group("buds inside buds", 0, |judge, _| large::nested_buds(judge)),
         group("128 mate pairs and 8,192 arcs", 0, |judge, _| large::dense_graphs(judge)),
@@ -68,28 +71,52 @@ pub fn of_engine() -> Vec<Group> {
         group("doubled tables of 127 cameras", 0, |judge, _| large::largest_tables(judge)),
         group("127 cameras and 3,900 fits", 0, |judge, _| large::dense_stocks(judge)),
         group("42 triangles in a row", 0, |judge, _| large::triangles(judge)),
-        group("62 lit pairs in a chain", 0, |judge, _| large::long_chain(judge)),
         group("odd rings", 0, |judge, _| large::odd_rings(judge)),
         group("ears of 90 to 127 cameras", 1, large::ears),
     ]
 }
 
-pub type ProgramTrial = fn(&Programs) -> Trial;
+pub struct ProgramGroup {
+    pub name: &'static str,
+    pub tried: fn(&Programs, &mut Random) -> Trial,
+}
 
-/// Document 01's examples first.
-pub fn of_programs() -> Vec<(&'static str, ProgramTrial)> {
+const fn programs(name: &'static str, tried: fn(&Programs, &mut Random) -> Trial) -> ProgramGroup {
+    ProgramGroup { name, tried }
+}
+
+/// Document 01's examples first, then those that cost least.
+pub fn of_programs() -> Vec<ProgramGroup> {
     vec![
-        ("programs: document 01's examples", programs::examples),
-        ("programs: refusals, long and empty input", programs::refusals),
-        ("programs: files that can't be opened", programs::missing_files),
+        programs("programs: document 01's examples", program_trials::examples),
+        programs("programs: files that can't be opened", program_trials::unopened_files),
+        programs("programs: every refusal", program_trials::refusals),
+        programs("programs: long and empty input", program_trials::lengths),
+        programs("programs: bytes that are no digits", program_trials::other_bytes),
+        programs("programs: input in pieces", program_trials::pieces),
+        programs("programs: the largest files", program_trials::largest_files),
+        programs("programs: middling graphs and stocks", program_trials::middling_files),
+        programs("programs: sheets and plans of every size", program_trials::stock_sizes),
+        programs("programs: paths and barriers of every size", program_trials::graph_sizes),
     ]
+}
+
+fn own_seed(name: &str, seed: u64) -> u64 {
+    name.bytes().fold(seed, |sum, byte| sum.wrapping_mul(31).wrapping_add(byte as u64))
+}
+
+fn caught(tried: impl FnOnce() -> Trial) -> Trial {
+    catch_unwind(AssertUnwindSafe(tried)).unwrap_or_else(|_| Err("a panic".to_string()))
 }
 
 /// What was seen, and how it went.
 pub fn run(group: &Group, engine: &dyn Engine, seed: u64, files: usize) -> (Seen, Trial) {
-    let own_seed = group.name.bytes().fold(seed, |sum, byte| sum.wrapping_mul(31).wrapping_add(byte as u64));
-    let mut judge = Judge::new(engine, own_seed);
+    let mut judge = Judge::new(engine, own_seed(group.name, seed));
     let share = (files * group.share).div_ceil(1_000);
-    let outcome = catch_unwind(AssertUnwindSafe(|| (group.tried)(&mut judge, share)));
-    (judge.seen, outcome.unwrap_or_else(|_| Err("a panic".to_string())))
+    let outcome = caught(|| (group.tried)(&mut judge, share));
+    (judge.seen, outcome)
+}
+
+pub fn run_programs(group: &ProgramGroup, programs: &Programs, seed: u64) -> Trial {
+    caught(|| (group.tried)(programs, &mut Random::new(own_seed(group.name, seed))))
 }

@@ -1,6 +1,7 @@
 //! Calls to an engine, each judged whole: refusal number, size, every byte of the buffer and around it, and the tally.
 //!   Judge                 an engine, a source of numbers, and counts of what was tried
 //!   graph, stock          a file handed to the calls for its kind, and judged by what document 01 says of it
+//!   graph_answer          the same, and the answer, empty for a refusal
 //!   short_buffers         the same with a buffer that is too small
 //!   all_calls             any bytes handed to every call
 //!   check, certificate    two files handed to the check; the second counted as a file tried
@@ -85,6 +86,10 @@ impl<'a> Judge<'a> {
     }
 
     pub fn graph(&mut self, file: &[u8]) -> Trial {
+        self.graph_answer(file).map(drop)
+    }
+
+    pub fn graph_answer(&mut self, file: &[u8]) -> Result<Vec<u8>, String> {
         self.seen.files += 1;
         self.as_graph(file)
     }
@@ -107,7 +112,7 @@ impl<'a> Judge<'a> {
         self.check(graph, file)
     }
 
-    fn as_graph(&mut self, file: &[u8]) -> Trial {
+    fn as_graph(&mut self, file: &[u8]) -> Result<Vec<u8>, String> {
         let truth = graph_truth(file);
         let owed = graph_owed(&truth);
         let (room, short) = self.rooms();
@@ -118,7 +123,7 @@ impl<'a> Judge<'a> {
         if owed.number == 0 {
             self.check(file, &answer)?;
         }
-        Ok(())
+        Ok(answer)
     }
 
     fn as_stock(&mut self, file: &[u8]) -> Trial {

@@ -17,8 +17,13 @@
 //!   exhaustive      every graph, stock and certificate of a small size
 //!   trials          random graphs, stocks, certificates and faults
 //!   damage          files damaged, cut off, or of random bytes
+//!   shapes          graphs and stocks made to measure
+//!   sizes           answers of every size
 //!   large           the largest files
-//!   programs        the programs, run on files
+//!   prints          what the programs print
+//!   programs        the programs, run and judged
+//!   stand_in        this binary in a program's place
+//!   program_trials  what is tried with the programs
 //!   self_checks     the trial against itself
 //!   groups          all that is tried, by name
 
@@ -36,11 +41,16 @@ pub mod groups;
 pub mod judge;
 pub mod known;
 pub mod large;
+pub mod prints;
+pub mod program_trials;
 pub mod programs;
 pub mod random;
 pub mod reference;
 pub mod self_checks;
+pub mod shapes;
+pub mod sizes;
 pub mod slips;
+pub mod stand_in;
 pub mod stock_trial;
 pub mod trials;
 pub mod truth;

@@ -9,11 +9,11 @@
 //!   --as NAME           stand in for a program
 
 use outside_tests::engine::{linked, Engine};
-use outside_tests::groups::{of_engine, of_programs, of_trial, run, Group};
+use outside_tests::groups::{of_engine, of_programs, of_trial, run, run_programs, Group};
 use outside_tests::judge::Seen;
-use outside_tests::programs::{stand_in, Programs};
+use outside_tests::programs::Programs;
 use outside_tests::reference::Parts;
-use outside_tests::wrong;
+use outside_tests::{stand_in, wrong};
 use std::io::Write;
 use std::path::PathBuf;
 use std::process::ExitCode;
@@ -112,10 +112,19 @@ impl Summary<'_> {
             Err(fault) => return self.tell("programs", Err(fault)),
         };
         let number = if self.options.valgrind { 1 } else { usize::MAX };
-        for (name, tried) in of_programs().into_iter().take(number) {
-            if self.is_wanted(name) {
-                self.tell(name, tried(&programs).map(|_| String::new()));
-            }
+        for group in of_programs().iter().take(number).filter(|group| group.name.contains(&self.options.only)) {
+            let before = programs.runs();
+            let outcome = run_programs(group, &programs, self.options.seed);
+            self.tell(group.name, outcome.map(|_| format!(" ({} runs)", programs.runs() - before)));
+        }
+        if self.options.only.is_empty() && !self.options.valgrind {
+            let missing = programs.never_printed();
+            let outcome = if missing.is_empty() {
+                Ok(String::new())
+            } else {
+                Err(format!("never printed (program, kind, number or lines): {missing:X?}"))
+            };
+            self.tell("programs: every refusal and every size of answer was printed", outcome);
         }
     }
 
@@ -159,7 +168,8 @@ fn try_all(options: &Options, engine: &dyn Engine) -> ExitCode {
 }
 
 fn stand_in_for(engine: &dyn Engine, name: &str) -> ExitCode {
-    let written = stand_in(engine, name).and_then(|text| std::io::stdout().write_all(&text).map_err(|error| error.to_string()));
+    let written =
+        stand_in::printed(engine, name).and_then(|text| std::io::stdout().write_all(&text).map_err(|error| error.to_string()));
     match written {
         Ok(()) => ExitCode::SUCCESS,
         Err(fault) => {

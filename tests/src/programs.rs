@@ -1,37 +1,159 @@
-//! The four programs, run on files as a technician runs them (document 01, "Programs").
+//! The four programs, run as a technician runs them (document 01, "Programs"), each print judged whole.
 //!   Programs            where they are: a folder, or this binary standing in for them; and what starts them, as valgrind
-//!   examples            document 01's known graphs and stocks, and its certificates
-//!   refusals            every question as the first failing one, printed as 7E and its number; long and empty input
-//!   missing_files       a file that can't be opened counts as empty
-//!   stand_in            what a program prints, by an engine
+//!   graph, stock        a file handed in on standard input; what is printed, for a stock by both its programs
+//!   graph_in_pieces, stock_in_pieces    the same with a pause between pieces
+//!   check, check_given  graph.hex and cert.hex, each a file, nothing, or a link that leads nowhere (Given)
+//!   runs, never_printed     how often programs were run; what of all that they can come to was not met
 
-use crate::engine::{Engine, Tally, Told, Verdict};
-use crate::faults::{failing, graph_for_certificates, questions, Kind, KINDS};
 use crate::graph_trial;
-use crate::judge::{shown, Trial, LEAST_ROOM};
-use crate::known::{graphs, stocks};
-use crate::random::Random;
+use crate::judge::{shown, Trial};
+use crate::prints::{
+    every_print, print_of, refusal_line, verdict_line, Print, CHECK_PROGRAM, GRAPH_PROGRAM, PLAN_PROGRAM, SHEET_PROGRAM,
+};
 use crate::truth::{graph_owed, graph_truth, plan_owed, sheet_owed, stock_truth, Owed};
+use std::cell::{Cell, RefCell};
+use std::collections::BTreeSet;
 use std::fs;
-use std::io::{Read, Write};
+use std::io::Write;
+use std::os::unix::fs::symlink;
 use std::path::PathBuf;
-use std::process::{Command, Stdio};
+use std::process::{Child, Command, Stdio};
+use std::sync::atomic::{AtomicUsize, Ordering};
+use std::time::Duration;
+
+/// What a program prints where it is right.
+pub type Printed = Result<Vec<u8>, String>;
 
 pub struct Programs {
     /// the folder of the programs; none where this binary stands in for them
-    pub folder: Option<PathBuf>,
+    folder: Option<PathBuf>,
     /// the words before each program
-    pub starter: Vec<String>,
+    starter: Vec<String>,
     /// a folder to run in, for graph.hex and cert.hex
     work: PathBuf,
+    runs: Cell<usize>,
+    met: RefCell<BTreeSet<Print>>,
 }
+
+/// What stands under the name of a file that the check reads.
+#[derive(Clone, Copy)]
+pub enum Given<'a> {
+    File(&'a [u8]),
+    Nothing,
+    Link,
+}
+
+impl<'a> Given<'a> {
+    /// What it counts as: a file that can't be opened is empty.
+    fn bytes(&self) -> &'a [u8] {
+        match self {
+            Given::File(bytes) => bytes,
+            Given::Nothing | Given::Link => b"",
+        }
+    }
+}
+
+/// A number for each folder to run in.
+static FOLDERS: AtomicUsize = AtomicUsize::new(0);
+
+/// A pause between two pieces of input, in steps; it ends where the program does.
+const PAUSE_STEPS: usize = 40;
+const PAUSE_STEP: Duration = Duration::from_millis(5);
 
 impl Programs {
     pub fn new(folder: Option<PathBuf>, starter: Vec<String>) -> Result<Programs, String> {
-        let work = std::env::temp_dir().join(format!("outside-tests-{}", std::process::id()));
+        let own = format!("outside-tests-{}-{}", std::process::id(), FOLDERS.fetch_add(1, Ordering::Relaxed));
+        let work = std::env::temp_dir().join(own);
         fs::create_dir_all(&work).map_err(|error| format!("{}: {error}", work.display()))?;
         let folder = folder.map(|folder| fs::canonicalize(&folder).map_err(|error| format!("{}: {error}", folder.display())));
-        Ok(Programs { folder: folder.transpose()?, starter, work })
+        let (runs, met) = (Cell::new(0), RefCell::new(BTreeSet::new()));
+        Ok(Programs { folder: folder.transpose()?, starter, work, runs, met })
+    }
+
+    pub fn runs(&self) -> usize {
+        self.runs.get()
+    }
+
+    pub fn never_printed(&self) -> Vec<Print> {
+        let met = self.met.borrow();
+        every_print().into_iter().filter(|print| !met.contains(print)).collect()
+    }
+
+    pub fn graph(&self, file: &[u8]) -> Printed {
+        self.graph_in_pieces(&[file])
+    }
+
+    /// Plan and sheet.
+    pub fn stock(&self, file: &[u8]) -> Result<[Vec<u8>; 2], String> {
+        self.stock_in_pieces(&[file])
+    }
+
+    pub fn graph_in_pieces(&self, pieces: &[&[u8]]) -> Printed {
+        self.answer(GRAPH_PROGRAM, pieces, &graph_owed(&graph_truth(&pieces.concat())))
+    }
+
+    pub fn stock_in_pieces(&self, pieces: &[&[u8]]) -> Result<[Vec<u8>; 2], String> {
+        let truth = stock_truth(&pieces.concat());
+        let plan = self.answer(PLAN_PROGRAM, pieces, &plan_owed(&truth))?;
+        let sheet = self.answer(SHEET_PROGRAM, pieces, &sheet_owed(&truth))?;
+        Ok([plan, sheet])
+    }
+
+    /// Two files that are there.
+    pub fn check(&self, graph: &[u8], certificate: &[u8]) -> Printed {
+        self.check_given(Given::File(graph), Given::File(certificate))
+    }
+
+    pub fn check_given(&self, graph: Given, certificate: Given) -> Printed {
+        self.put("graph.hex", graph)?;
+        self.put("cert.hex", certificate)?;
+        let owed = verdict_line(graph_trial::check(graph.bytes(), certificate.bytes()));
+        let printed = self.printed(CHECK_PROGRAM, &[])?;
+        if printed == owed {
+            return Ok(printed);
+        }
+        let files = format!("{}and\n{}", shown(graph.bytes()), shown(certificate.bytes()));
+        Err(format!("{CHECK_PROGRAM} prints\n{}where owed is\n{}given\n{files}", shown(&printed), shown(&owed)))
+    }
+
+    fn put(&self, name: &str, given: Given) -> Trial {
+        let path = self.work.join(name);
+        let failed = |error: std::io::Error| format!("{}: {error}", path.display());
+        if fs::symlink_metadata(&path).is_ok() {
+            fs::remove_file(&path).map_err(failed)?;
+        }
+        match given {
+            Given::File(bytes) => fs::write(&path, bytes).map_err(failed),
+            Given::Nothing => Ok(()),
+            Given::Link => symlink(self.work.join("nowhere"), &path).map_err(failed),
+        }
+    }
+
+    fn answer(&self, name: &'static str, pieces: &[&[u8]], owed: &Owed) -> Printed {
+        let printed = self.printed(name, pieces)?;
+        let right = if owed.number == 0 { (owed.is_right)(&printed) } else { printed == refusal_line(owed.number) };
+        if right {
+            return Ok(printed);
+        }
+        let what = format!("{name} prints\n{}where refusal {} is owed (0: an answer)", shown(&printed), owed.number);
+        Err(format!("{what}, given\n{}", shown(&pieces.concat())))
+    }
+
+    /// What a program prints, of what it is given on standard input.
+    fn printed(&self, name: &'static str, pieces: &[&[u8]]) -> Printed {
+        let words = self.words(name)?;
+        let failed = |error: std::io::Error| format!("{}: {error}", words.join(" "));
+        let mut command = Command::new(&words[0]);
+        command.args(&words[1..]).current_dir(&self.work).stdin(Stdio::piped()).stdout(Stdio::piped());
+        let mut running = command.spawn().map_err(failed)?;
+        hand_in(&mut running, pieces);
+        let ended = running.wait_with_output().map_err(failed)?;
+        self.runs.set(self.runs.get() + 1);
+        if !ended.status.success() {
+            return Err(format!("{} ended with {}, given\n{}", words.join(" "), ended.status, shown(&pieces.concat())));
+        }
+        self.met.borrow_mut().insert(print_of(name, &ended.stdout));
+        Ok(ended.stdout)
     }
 
     fn words(&self, name: &str) -> Result<Vec<String>, String> {
@@ -45,67 +167,6 @@ impl Programs {
         }
         Ok(words)
     }
-
-    /// What a program prints, of what it is given on standard input.
-    fn printed(&self, name: &str, input: &[u8]) -> Result<Vec<u8>, String> {
-        let words = self.words(name)?;
-        let failed = |error: std::io::Error| format!("{}: {error}", words.join(" "));
-        let mut command = Command::new(&words[0]);
-        command.args(&words[1..]).current_dir(&self.work).stdin(Stdio::piped()).stdout(Stdio::piped());
-        let mut running = command.spawn().map_err(failed)?;
-        // a program may end before it has read all of a long file
-        let _ = running.stdin.take().unwrap().write_all(input);
-        let ended = running.wait_with_output().map_err(failed)?;
-        if ended.status.success() {
-            Ok(ended.stdout)
-        } else {
-            Err(format!("{} ended with {}, given\n{}", words.join(" "), ended.status, shown(input)))
-        }
-    }
-
-    fn answer(&self, name: &str, file: &[u8], owed: &Owed) -> Trial {
-        let printed = self.printed(name, file)?;
-        let right = if owed.number == 0 { (owed.is_right)(&printed) } else { printed == refusal_line(owed.number) };
-        if right {
-            Ok(())
-        } else {
-            Err(format!(
-                "{name} prints\n{}where refusal {} is owed (0: an answer), given\n{}",
-                shown(&printed),
-                owed.number,
-                shown(file)
-            ))
-        }
-    }
-
-    fn graph(&self, file: &[u8]) -> Trial {
-        self.answer("lanes_graph", file, &graph_owed(&graph_truth(file)))
-    }
-
-    fn stock(&self, file: &[u8]) -> Trial {
-        let truth = stock_truth(file);
-        let (plan, sheet) = (plan_owed(&truth), sheet_owed(&truth));
-        self.answer("lanes_plan", file, &plan)?;
-        self.answer("lanes_sheet", file, &sheet)
-    }
-
-    /// The check, with files that are there or not.
-    fn check(&self, graph: Option<&[u8]>, certificate: Option<&[u8]>) -> Trial {
-        for (name, file) in [("graph.hex", graph), ("cert.hex", certificate)] {
-            let path = self.work.join(name);
-            let _ = fs::remove_file(&path);
-            if let Some(bytes) = file {
-                fs::write(&path, bytes).map_err(|error| format!("{}: {error}", path.display()))?;
-            }
-        }
-        let owed = verdict_line(graph_trial::check(graph.unwrap_or(b""), certificate.unwrap_or(b"")));
-        let printed = self.printed("lanes_check", b"")?;
-        if printed == owed {
-            return Ok(());
-        }
-        let files = format!("{}and\n{}", shown(graph.unwrap_or(b"")), shown(certificate.unwrap_or(b"")));
-        Err(format!("lanes_check prints\n{}where owed is\n{}given\n{files}", shown(&printed), shown(&owed)))
-    }
 }
 
 impl Drop for Programs {
@@ -114,85 +175,23 @@ impl Drop for Programs {
     }
 }
 
-fn refusal_line(number: u8) -> Vec<u8> {
-    format!("7E{number:02X}\n").into_bytes()
-}
-
-fn verdict_line(verdict: Verdict) -> Vec<u8> {
-    match verdict {
-        Verdict::Yes => b"7A01\n".to_vec(),
-        Verdict::No => b"7A00\n".to_vec(),
-        Verdict::Refused(number) => refusal_line(number),
-    }
-}
-
-// ---- what is tried
-
-pub fn examples(programs: &Programs) -> Trial {
-    for known in graphs() {
-        let file = known.graph.file();
-        programs.graph(&file)?;
-        programs.check(Some(&file), Some(&known.answers[0]))?;
-    }
-    for known in stocks() {
-        programs.stock(&known.stock.file())?;
-    }
-    for (place, certificate) in [(3, [0, 2, 1]), (4, [0, 2, 5])] {
-        let graph = graphs()[place].graph.file();
-        programs.check(Some(&graph), Some(&crate::frames::path_file(&certificate)))?;
-    }
-    Ok(())
-}
-
-pub fn refusals(programs: &Programs) -> Trial {
-    let random = &mut Random::new(1);
-    for kind in KINDS {
-        for question in questions(kind) {
-            let file = failing(random, kind, &[*question])?;
-            match kind {
-                Kind::Graph => programs.graph(&file)?,
-                Kind::Stock => programs.stock(&file)?,
-                Kind::Path | Kind::Barrier => programs.check(Some(&graph_for_certificates().file()), Some(&file))?,
-            }
+/// Standard input, then its end. A program may end before it has read all of a long file.
+fn hand_in(running: &mut Child, pieces: &[&[u8]]) {
+    let mut input = running.stdin.take().unwrap();
+    for (place, piece) in pieces.iter().enumerate() {
+        if place > 0 {
+            pause(running);
         }
+        let _ = input.write_all(piece);
     }
-    let good = graphs()[0].graph.file();
-    for length in [0, 1, 60_000, 60_001, 65_536, 1_000_000] {
-        let zeros = vec![b'0'; length];
-        programs.graph(&zeros)?;
-        programs.stock(&zeros)?;
-        programs.check(Some(&zeros), Some(&zeros))?;
-        programs.check(Some(&good), Some(&zeros))?;
-    }
-    Ok(())
 }
 
-pub fn missing_files(programs: &Programs) -> Trial {
-    let known = &graphs()[0];
-    programs.check(None, None)?;
-    programs.check(None, Some(&known.answers[0]))?;
-    programs.check(Some(&known.graph.file()), None)?;
-    programs.check(Some(&known.graph.file()), Some(&known.answers[0]))
-}
-
-// ---- this binary in a program's place
-
-pub fn stand_in(engine: &dyn Engine, name: &str) -> Result<Vec<u8>, String> {
-    if name == "lanes_check" {
-        let read = |file: &str| fs::read(file).unwrap_or_default();
-        return Ok(verdict_line(engine.check(&read("graph.hex"), &read("cert.hex"))));
-    }
-    let mut file = Vec::new();
-    std::io::stdin().read_to_end(&mut file).map_err(|error| error.to_string())?;
-    let mut out = [0; LEAST_ROOM];
-    let told = match name {
-        "lanes_graph" => engine.answer_graph(&file, &mut out, &mut Tally::default()),
-        "lanes_plan" => engine.plan(&file, &mut out, &mut Tally::default()),
-        "lanes_sheet" => engine.sheet(&file, &mut out, &mut Tally::default()),
-        _ => return Err(format!("there is no program {name}")),
-    };
-    match told {
-        Told { number: 0, size } => Ok(out[..size].to_vec()),
-        Told { number, .. } => Ok(refusal_line(number)),
+fn pause(running: &mut Child) {
+    let goes_on = |running: &mut Child| matches!(running.try_wait(), Ok(None));
+    for _ in 0..PAUSE_STEPS {
+        if !goes_on(running) {
+            return;
+        }
+        std::thread::sleep(PAUSE_STEP);
     }
 }

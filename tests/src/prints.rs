@@ -1,0 +1,59 @@
+//! What the programs print (document 01, "Programs").
+//!   GRAPH_PROGRAM ..               the names of the programs
+//!   refusal_line, verdict_line     7E and a number; 7A01 for yes, 7A00 for no
+//!   Print, print_of                which program printed, the kind that its first line opens with, and a number: that of the line where
+//!                                  it is the only one, otherwise the number of body lines
+//!   every_print                    all that the programs can come to: each refusal, each verdict, each size of answer
+
+use crate::engine::Verdict;
+use crate::frames::{kind_of, number, Text, BARRIER, PATH, PLAN, SHEET};
+use crate::graph_trial::{CERTIFICATE_QUESTIONS, GRAPH_QUESTIONS};
+use crate::stock_trial::STOCK_QUESTIONS;
+
+pub const GRAPH_PROGRAM: &str = "lanes_graph";
+pub const PLAN_PROGRAM: &str = "lanes_plan";
+pub const SHEET_PROGRAM: &str = "lanes_sheet";
+pub const CHECK_PROGRAM: &str = "lanes_check";
+
+const REFUSAL: u8 = 0x7E;
+const VERDICT: u8 = 0x7A;
+
+pub fn refusal_line(number: u8) -> Vec<u8> {
+    format!("{REFUSAL:02X}{number:02X}\n").into_bytes()
+}
+
+pub fn verdict_line(verdict: Verdict) -> Vec<u8> {
+    match verdict {
+        Verdict::Yes => b"7A01\n".to_vec(),
+        Verdict::No => b"7A00\n".to_vec(),
+        Verdict::Refused(number) => refusal_line(number),
+    }
+}
+
+pub type Print = (&'static str, usize, usize);
+
+pub fn print_of(program: &'static str, printed: &[u8]) -> Print {
+    let text = Text::of(printed);
+    let only_line = text.lines.len() == 1;
+    (program, kind_of(text.header()), if only_line { number(text.header(), 2, 2) } else { text.body().len() })
+}
+
+pub fn every_print() -> Vec<Print> {
+    let refusals = |questions: &[u8], added: usize| questions.iter().map(|number| *number as usize + added).collect();
+    let of_stock: Vec<usize> = refusals(&STOCK_QUESTIONS, 0);
+    let numbers: [(&str, u8, Vec<usize>); 10] = [
+        (GRAPH_PROGRAM, PATH.header, (1..=255).collect()),
+        (GRAPH_PROGRAM, BARRIER.header, (1..=128).map(|pairs| 2 * pairs).collect()),
+        (GRAPH_PROGRAM, REFUSAL, refusals(&GRAPH_QUESTIONS, 0)),
+        (PLAN_PROGRAM, PLAN.header, (0..=63).collect()),
+        (PLAN_PROGRAM, REFUSAL, of_stock.clone()),
+        (SHEET_PROGRAM, SHEET.header, (0..=127).collect()),
+        (SHEET_PROGRAM, REFUSAL, of_stock),
+        (CHECK_PROGRAM, VERDICT, vec![0, 1]),
+        (CHECK_PROGRAM, REFUSAL, refusals(&GRAPH_QUESTIONS, 0)),
+        (CHECK_PROGRAM, REFUSAL, refusals(&CERTIFICATE_QUESTIONS, 40)),
+    ];
+    let all =
+        numbers.into_iter().flat_map(|(program, kind, numbers)| numbers.into_iter().map(move |number| (program, kind, number)));
+    all.map(|(program, kind, number)| (program, kind as usize, number)).collect()
+}

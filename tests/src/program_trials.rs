@@ -1,0 +1,202 @@
+//! What is tried with the programs.
+//!   examples            document 01's known graphs and stocks, and its certificates
+//!   unopened_files      a file that can't be opened counts as empty
+//!   refusals            every question as the first failing one, of every file of every program
+//!   other_bytes         files with bytes that are no digits, spelled otherwise, or followed by something
+//!   lengths             input of no byte, of 60,000 bytes, of one more and of many more
+//!   largest_files       8,192 arcs, 3,900 fits, and as many lines as 60,000 bytes hold
+//!   pieces              standard input that comes in two pieces
+//!   middling_files      random graphs and stocks
+//!   graph_sizes         paths of every number of arcs and barriers on every number of mate pairs, each checked as it is and spoiled
+//!   stock_sizes         sheets of every number of cameras, plans of every number of pairs
+//! The longest come first, so that a program that cuts is soon found.
+
+use crate::cases::one_of;
+use crate::damage::{BYTES, DIGITS};
+use crate::engine::Verdict;
+use crate::faults::{failing, graph_for_certificates, questions, Kind, KINDS};
+use crate::frames::{file, path_file, plan_file, sheet_file, stock_file, GREATEST_FILE};
+use crate::generate::{all_fits, middling_graph, middling_stock, nearly_largest_lit, some_fits, stock_of};
+use crate::judge::{shown, Trial};
+use crate::known::{graph, graphs, stocks, G4, G5};
+use crate::large::dense_graph;
+use crate::prints::{refusal_line, verdict_line};
+use crate::programs::{Given, Programs};
+use crate::random::Random;
+use crate::shapes::{of_every_size, rows_of_every_size, spoiled};
+
+/// A print that is plain beforehand.
+fn owed(printed: &[u8], right: Vec<u8>) -> Trial {
+    one_of("a program", printed, &[right])
+}
+
+pub fn examples(programs: &Programs, _: &mut Random) -> Trial {
+    for known in graphs() {
+        let file = known.graph.file();
+        one_of(known.name, &programs.graph(&file)?, &known.answers)?;
+        for answer in &known.answers {
+            owed(&programs.check(&file, answer)?, verdict_line(Verdict::Yes))?;
+        }
+    }
+    for known in stocks() {
+        let [plan, sheet] = programs.stock(&known.stock.file())?;
+        one_of(known.name, &plan, &known.plans)?;
+        one_of(known.name, &sheet, &[known.sheet])?;
+    }
+    let (g4, g5) = (graph(2, &G4).file(), graph(2, &G5).file());
+    owed(&programs.check(&g4, &path_file(&[0, 2, 1]))?, verdict_line(Verdict::No))?;
+    owed(&programs.check(&g5, &path_file(&[0, 2, 5]))?, verdict_line(Verdict::Yes))
+}
+
+pub fn unopened_files(programs: &Programs, _: &mut Random) -> Trial {
+    let (graph, certificate) = (graphs()[0].graph.file(), graphs()[0].answers[0].clone());
+    let (graph, certificate) = (Given::File(&graph), Given::File(&certificate));
+    for missing in [Given::Nothing, Given::Link] {
+        owed(&programs.check_given(missing, missing)?, refusal_line(4))?;
+        owed(&programs.check_given(missing, certificate)?, refusal_line(4))?;
+        owed(&programs.check_given(graph, missing)?, refusal_line(44))?;
+    }
+    owed(&programs.check_given(graph, certificate)?, verdict_line(Verdict::Yes))
+}
+
+pub fn refusals(programs: &Programs, random: &mut Random) -> Trial {
+    let beside = graph_for_certificates().file();
+    for kind in KINDS {
+        for question in questions(kind) {
+            let file = failing(random, kind, &[*question])?;
+            let printed = match kind {
+                Kind::Graph => vec![programs.graph(&file)?, programs.check(&file, &path_file(&[]))?],
+                Kind::Stock => programs.stock(&file)?.to_vec(),
+                Kind::Path | Kind::Barrier => vec![programs.check(&beside, &file)?],
+            };
+            let added = if matches!(kind, Kind::Path | Kind::Barrier) { 40 } else { 0 };
+            printed.iter().try_for_each(|line| owed(line, refusal_line(question + added)))?;
+        }
+    }
+    Ok(())
+}
+
+/// Files handed to every program, the check's graph and its certificate each beside one that is right. What was printed, in this order.
+fn everywhere(programs: &Programs, graph: &[u8], stock: &[u8], certificate: &[u8]) -> Result<[Vec<u8>; 5], String> {
+    let (right, answer) = (graphs()[4].graph.file(), &graphs()[4].answers[0]);
+    let [plan, sheet] = programs.stock(stock)?;
+    Ok([programs.graph(graph)?, plan, sheet, programs.check(graph, answer)?, programs.check(&right, certificate)?])
+}
+
+/// The same where all are refused with one number.
+fn refused_everywhere(programs: &Programs, files: [&[u8]; 3], number: u8) -> Trial {
+    let [graph, stock, certificate] = files;
+    let printed = everywhere(programs, graph, stock, certificate)?;
+    printed[..4].iter().try_for_each(|line| owed(line, refusal_line(number)))?;
+    owed(&printed[4], refusal_line(number + 40))
+}
+
+pub fn lengths(programs: &Programs, _: &mut Random) -> Trial {
+    for (length, number) in [(0, 4), (1, 3), (GREATEST_FILE, 3), (GREATEST_FILE + 1, 2), (65_536, 2), (1_000_000, 2)] {
+        let zeros = vec![b'0'; length];
+        refused_everywhere(programs, [&zeros; 3], number)?;
+        owed(&programs.check(&zeros, &zeros)?, refusal_line(number))?;
+    }
+    Ok(())
+}
+
+pub fn other_bytes(programs: &Programs, random: &mut Random) -> Trial {
+    let good = [graphs()[4].graph.file(), stocks()[4].stock.file(), graphs()[4].answers[0].clone()];
+    let refused = |change: &dyn Fn(&[u8]) -> Vec<u8>, number: u8| {
+        let [graph, stock, certificate] = good.each_ref().map(|file| change(file));
+        refused_everywhere(programs, [&graph, &stock, &certificate], number)
+    };
+    for byte in &BYTES[DIGITS..] {
+        refused(&|file| [file, &[*byte]].concat(), 3)?;
+        refused(&|file| [&[*byte], file].concat(), 3)?;
+        let [graph, stock, certificate] = good.each_ref().map(|file| {
+            let place = random.below(file.len());
+            [&file[..place], &[*byte], &file[place + 1..]].concat()
+        });
+        everywhere(programs, &graph, &stock, &certificate)?;
+    }
+    refused(&|file| file.to_ascii_lowercase(), 3)?;
+    refused(&|file| String::from_utf8_lossy(file).replace('\n', "\r\n").into_bytes(), 3)?;
+    refused(&|file| [b"\xEF\xBB\xBF", file].concat(), 3)?;
+    refused(&|file| [file, file].concat(), 6)
+}
+
+/// As many body lines of right length as 60,000 bytes hold.
+const MOST_LINES: usize = 8_569;
+
+/// Whole lines of that many bytes in all, the last one longer than it should be.
+fn filled(header: &str, line: &str, end: u8, bytes: usize) -> Vec<u8> {
+    let body = vec![line.to_string(); MOST_LINES - 1];
+    let mut file = file(header, &body, end);
+    file.pop();
+    file.resize(bytes - 1, b'0');
+    file.push(b'\n');
+    file
+}
+
+pub fn largest_files(programs: &Programs, random: &mut Random) -> Trial {
+    for entries in [1, 2] {
+        let mut graph = dense_graph(random, entries);
+        let answer = programs.graph(&graph.file())?;
+        owed(&programs.check(&graph.file(), &answer)?, verdict_line(Verdict::Yes))?;
+        // the last arc is not the mate of the one before
+        graph.arcs[8_191].0 ^= 1;
+        owed(&programs.graph(&graph.file())?, refusal_line(10))?;
+        owed(&programs.check(&graph.file(), &answer)?, refusal_line(10))?;
+    }
+    let fits = some_fits(random, 127, 3_900);
+    let lit = nearly_largest_lit(127, &fits, 1);
+    programs.stock(&stock_of(127, &fits, &lit).file())?;
+    let printed = programs.stock(&stock_file(127, &all_fits(127)[..3_900], &all_fits(127)[..4_660]))?;
+    printed.iter().try_for_each(|line| owed(line, refusal_line(13)))?;
+    let kinds = [("018000", "020002", 0x0F), ("117F", "120001", 0x1F), ("21", "220000", 0x2F)];
+    let files = kinds.map(|(header, line, end)| file(header, &vec![line.to_string(); MOST_LINES], end));
+    refused_everywhere(programs, files.each_ref().map(|file| &file[..]), 8)?;
+    for (bytes, number) in [(GREATEST_FILE, 6), (GREATEST_FILE + 1, 2)] {
+        let files = kinds.map(|(header, line, end)| filled(header, line, end, bytes));
+        refused_everywhere(programs, files.each_ref().map(|file| &file[..]), number)?;
+    }
+    Ok(())
+}
+
+pub fn pieces(programs: &Programs, _: &mut Random) -> Trial {
+    let (graph, stock) = (graphs()[4].graph.file(), stocks()[6].stock.file());
+    programs.graph_in_pieces(&[&graph[..25], &graph[25..]])?;
+    programs.stock_in_pieces(&[&stock[..30], &stock[30..]]).map(drop)
+}
+
+pub fn middling_files(programs: &Programs, random: &mut Random) -> Trial {
+    for _ in 0..30 {
+        let graph = middling_graph(random).file();
+        let answer = programs.graph(&graph)?;
+        owed(&programs.check(&graph, &answer)?, verdict_line(Verdict::Yes))?;
+        programs.stock(&middling_stock(random).file())?;
+    }
+    Ok(())
+}
+
+fn known_to_be(right: bool, printed: &[u8], file: &[u8]) -> Trial {
+    if right {
+        return Ok(());
+    }
+    Err(format!("the trial takes another answer than is known:\n{}to:\n{}", shown(printed), shown(file)))
+}
+
+pub fn graph_sizes(programs: &Programs, _: &mut Random) -> Trial {
+    of_every_size().try_for_each(|(graph, known)| {
+        let file = graph.file();
+        let answer = programs.graph(&file)?;
+        known_to_be(known.allows(&answer), &answer, &file)?;
+        owed(&programs.check(&file, &answer)?, verdict_line(Verdict::Yes))?;
+        owed(&programs.check(&file, &spoiled(&graph, &answer)?)?, verdict_line(Verdict::No))
+    })
+}
+
+pub fn stock_sizes(programs: &Programs, _: &mut Random) -> Trial {
+    rows_of_every_size().try_for_each(|(stock, standing)| {
+        let file = stock.file();
+        let [plan, sheet] = programs.stock(&file)?;
+        known_to_be(sheet == sheet_file(standing.greatest, &standing.marks), &sheet, &file)?;
+        known_to_be(plan.len() == plan_file(&vec![(0, 0); standing.greatest]).len(), &plan, &file)
+    })
+}
