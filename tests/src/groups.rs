@@ -92,10 +92,10 @@ pub fn of_programs() -> Vec<ProgramGroup> {
         programs("programs: files that can't be opened", program_trials::unopened_files),
         programs("programs: every refusal", program_trials::refusals),
         programs("programs: long and empty input", program_trials::lengths),
-        programs("programs: bytes that are no digits", program_trials::other_bytes),
-        programs("programs: input in pieces", program_trials::pieces),
         programs("programs: the largest files", program_trials::largest_files),
+        programs("programs: bytes that are no digits", program_trials::other_bytes),
         programs("programs: middling graphs and stocks", program_trials::middling_files),
+        programs("programs: input in pieces", program_trials::pieces),
         programs("programs: sheets and plans of every size", program_trials::stock_sizes),
         programs("programs: paths and barriers of every size", program_trials::graph_sizes),
     ]
@@ -105,18 +105,21 @@ fn own_seed(name: &str, seed: u64) -> u64 {
     name.bytes().fold(seed, |sum, byte| sum.wrapping_mul(31).wrapping_add(byte as u64))
 }
 
-fn caught(tried: impl FnOnce() -> Trial) -> Trial {
-    catch_unwind(AssertUnwindSafe(tried)).unwrap_or_else(|_| Err("a panic".to_string()))
+/// What a failure by a panic is told as.
+pub const PANIC: &str = "a panic";
+
+fn without_panic(tried: impl FnOnce() -> Trial) -> Trial {
+    catch_unwind(AssertUnwindSafe(tried)).unwrap_or_else(|_| Err(PANIC.to_string()))
 }
 
 /// What was seen, and how it went.
 pub fn run(group: &Group, engine: &dyn Engine, seed: u64, files: usize) -> (Seen, Trial) {
     let mut judge = Judge::new(engine, own_seed(group.name, seed));
     let share = (files * group.share).div_ceil(1_000);
-    let outcome = caught(|| (group.tried)(&mut judge, share));
+    let outcome = without_panic(|| (group.tried)(&mut judge, share));
     (judge.seen, outcome)
 }
 
 pub fn run_programs(group: &ProgramGroup, programs: &Programs, seed: u64) -> Trial {
-    caught(|| (group.tried)(programs, &mut Random::new(own_seed(group.name, seed))))
+    without_panic(|| (group.tried)(programs, &mut Random::new(own_seed(group.name, seed))))
 }

@@ -23,9 +23,12 @@
 //!   prints          what the programs print
 //!   programs        the programs, run and judged
 //!   stand_in        this binary in a program's place
+//!   wrong_programs  programs that go about it wrongly
 //!   program_trials  what is tried with the programs
 //!   self_checks     the trial against itself
 //!   groups          all that is tried, by name
+//!   options         the words of a run
+//!   summary         a run, told line by line
 
 pub mod arc_matching;
 pub mod blossom;
@@ -41,6 +44,7 @@ pub mod groups;
 pub mod judge;
 pub mod known;
 pub mod large;
+pub mod options;
 pub mod prints;
 pub mod program_trials;
 pub mod programs;
@@ -52,6 +56,8 @@ pub mod sizes;
 pub mod slips;
 pub mod stand_in;
 pub mod stock_trial;
+pub mod summary;
 pub mod trials;
 pub mod truth;
 pub mod wrong;
+pub mod wrong_programs;

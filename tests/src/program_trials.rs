@@ -106,6 +106,11 @@ pub fn other_bytes(programs: &Programs, random: &mut Random) -> Trial {
         let [graph, stock, certificate] = good.each_ref().map(|file| change(file));
         refused_everywhere(programs, [&graph, &stock, &certificate], number)
     };
+    refused(&|file| file[..file.len() - 1].to_vec(), 3)?;
+    refused(&|file| file.to_ascii_lowercase(), 3)?;
+    refused(&|file| String::from_utf8_lossy(file).replace('\n', "\r\n").into_bytes(), 3)?;
+    refused(&|file| [b"\xEF\xBB\xBF", file].concat(), 3)?;
+    refused(&|file| [file, file].concat(), 6)?;
     for byte in &BYTES[DIGITS..] {
         refused(&|file| [file, &[*byte]].concat(), 3)?;
         refused(&|file| [&[*byte], file].concat(), 3)?;
@@ -115,10 +120,7 @@ pub fn other_bytes(programs: &Programs, random: &mut Random) -> Trial {
         });
         everywhere(programs, &graph, &stock, &certificate)?;
     }
-    refused(&|file| file.to_ascii_lowercase(), 3)?;
-    refused(&|file| String::from_utf8_lossy(file).replace('\n', "\r\n").into_bytes(), 3)?;
-    refused(&|file| [b"\xEF\xBB\xBF", file].concat(), 3)?;
-    refused(&|file| [file, file].concat(), 6)
+    Ok(())
 }
 
 /// As many body lines of right length as 60,000 bytes hold.

@@ -1,5 +1,6 @@
 //! The four programs, run as a technician runs them (document 01, "Programs"), each print judged whole.
-//!   Programs            where they are: a folder, or this binary standing in for them; and what starts them, as valgrind
+//!   Place               where they are: in a folder, or this binary standing in for them, rightly or wrongly
+//!   Programs            a place, and what starts them, as valgrind
 //!   graph, stock        a file handed in on standard input; what is printed, for a stock by both its programs
 //!   graph_in_pieces, stock_in_pieces    the same with a pause between pieces
 //!   check, check_given  graph.hex and cert.hex, each a file, nothing, or a link that leads nowhere (Given)
@@ -10,6 +11,8 @@ use crate::judge::{shown, Trial};
 use crate::prints::{
     every_print, print_of, refusal_line, verdict_line, Print, CHECK_PROGRAM, GRAPH_PROGRAM, PLAN_PROGRAM, SHEET_PROGRAM,
 };
+use crate::reference::Parts;
+use crate::stand_in::{answered, WRONG_STATUS};
 use crate::truth::{graph_owed, graph_truth, plan_owed, sheet_owed, stock_truth, Owed};
 use std::cell::{Cell, RefCell};
 use std::collections::BTreeSet;
@@ -24,9 +27,20 @@ use std::time::Duration;
 /// What a program prints where it is right.
 pub type Printed = Result<Vec<u8>, String>;
 
+/// Where the programs are.
+pub enum Place {
+    Folder(PathBuf),
+    /// this binary stands in for them
+    Here,
+    /// likewise, and one of them is wrong; the others are not run, as all is known of them
+    HereWrongly {
+        program: &'static str,
+        what: &'static str,
+    },
+}
+
 pub struct Programs {
-    /// the folder of the programs; none where this binary stands in for them
-    folder: Option<PathBuf>,
+    place: Place,
     /// the words before each program
     starter: Vec<String>,
     /// a folder to run in, for graph.hex and cert.hex
@@ -53,6 +67,9 @@ impl<'a> Given<'a> {
     }
 }
 
+/// How a message begins where a program was not started, or where this binary could not stand in for it.
+pub const NOT_RUN: &str = "not run: ";
+
 /// A number for each folder to run in.
 static FOLDERS: AtomicUsize = AtomicUsize::new(0);
 
@@ -61,13 +78,17 @@ const PAUSE_STEPS: usize = 40;
 const PAUSE_STEP: Duration = Duration::from_millis(5);
 
 impl Programs {
-    pub fn new(folder: Option<PathBuf>, starter: Vec<String>) -> Result<Programs, String> {
+    pub fn new(place: Place, starter: Vec<String>) -> Result<Programs, String> {
         let own = format!("outside-tests-{}-{}", std::process::id(), FOLDERS.fetch_add(1, Ordering::Relaxed));
         let work = std::env::temp_dir().join(own);
         fs::create_dir_all(&work).map_err(|error| format!("{}: {error}", work.display()))?;
-        let folder = folder.map(|folder| fs::canonicalize(&folder).map_err(|error| format!("{}: {error}", folder.display())));
-        let (runs, met) = (Cell::new(0), RefCell::new(BTreeSet::new()));
-        Ok(Programs { folder: folder.transpose()?, starter, work, runs, met })
+        let place = match place {
+            Place::Folder(folder) => {
+                Place::Folder(fs::canonicalize(&folder).map_err(|error| format!("{}: {error}", folder.display()))?)
+            }
+            here => here,
+        };
+        Ok(Programs { place, starter, work, runs: Cell::new(0), met: RefCell::new(BTreeSet::new()) })
     }
 
     pub fn runs(&self) -> usize {
@@ -89,14 +110,14 @@ impl Programs {
     }
 
     pub fn graph_in_pieces(&self, pieces: &[&[u8]]) -> Printed {
-        self.answer(GRAPH_PROGRAM, pieces, &graph_owed(&graph_truth(&pieces.concat())))
+        let file = pieces.concat();
+        self.answer(GRAPH_PROGRAM, pieces, || graph_truth(&file), graph_owed)
     }
 
     pub fn stock_in_pieces(&self, pieces: &[&[u8]]) -> Result<[Vec<u8>; 2], String> {
-        let truth = stock_truth(&pieces.concat());
-        let plan = self.answer(PLAN_PROGRAM, pieces, &plan_owed(&truth))?;
-        let sheet = self.answer(SHEET_PROGRAM, pieces, &sheet_owed(&truth))?;
-        Ok([plan, sheet])
+        let file = pieces.concat();
+        let truth = || stock_truth(&file);
+        Ok([self.answer(PLAN_PROGRAM, pieces, truth, plan_owed)?, self.answer(SHEET_PROGRAM, pieces, truth, sheet_owed)?])
     }
 
     /// Two files that are there.
@@ -108,6 +129,9 @@ impl Programs {
         self.put("graph.hex", graph)?;
         self.put("cert.hex", certificate)?;
         let owed = verdict_line(graph_trial::check(graph.bytes(), certificate.bytes()));
+        if !self.is_run(CHECK_PROGRAM) {
+            return Ok(owed);
+        }
         let printed = self.printed(CHECK_PROGRAM, &[])?;
         if printed == owed {
             return Ok(printed);
@@ -129,8 +153,13 @@ impl Programs {
         }
     }
 
-    fn answer(&self, name: &'static str, pieces: &[&[u8]], owed: &Owed) -> Printed {
+    fn answer<T>(&self, name: &'static str, pieces: &[&[u8]], truth: impl Fn() -> T, owed: fn(&T) -> Owed) -> Printed {
+        if !self.is_run(name) {
+            return Ok(answered(&Parts::right(), name, &pieces.concat()).unwrap_or_else(refusal_line));
+        }
         let printed = self.printed(name, pieces)?;
+        let truth = truth();
+        let owed = owed(&truth);
         let right = if owed.number == 0 { (owed.is_right)(&printed) } else { printed == refusal_line(owed.number) };
         if right {
             return Ok(printed);
@@ -142,7 +171,7 @@ impl Programs {
     /// What a program prints, of what it is given on standard input.
     fn printed(&self, name: &'static str, pieces: &[&[u8]]) -> Printed {
         let words = self.words(name)?;
-        let failed = |error: std::io::Error| format!("{}: {error}", words.join(" "));
+        let failed = |error: std::io::Error| format!("{NOT_RUN}{}: {error}", words.join(" "));
         let mut command = Command::new(&words[0]);
         command.args(&words[1..]).current_dir(&self.work).stdin(Stdio::piped()).stdout(Stdio::piped());
         let mut running = command.spawn().map_err(failed)?;
@@ -150,20 +179,28 @@ impl Programs {
         let ended = running.wait_with_output().map_err(failed)?;
         self.runs.set(self.runs.get() + 1);
         if !ended.status.success() {
-            return Err(format!("{} ended with {}, given\n{}", words.join(" "), ended.status, shown(&pieces.concat())));
+            let stood_in = !matches!(self.place, Place::Folder(_)) && ended.status.code() != Some(WRONG_STATUS.into());
+            let not_run = if stood_in { NOT_RUN } else { "" };
+            return Err(format!("{not_run}{} ended with {}, given\n{}", words.join(" "), ended.status, shown(&pieces.concat())));
         }
         self.met.borrow_mut().insert(print_of(name, &ended.stdout));
         Ok(ended.stdout)
     }
 
+    fn is_run(&self, name: &str) -> bool {
+        !matches!(self.place, Place::HereWrongly { program, .. } if program != name)
+    }
+
     fn words(&self, name: &str) -> Result<Vec<String>, String> {
         let mut words = self.starter.clone();
-        match &self.folder {
-            Some(folder) => words.push(folder.join(name).display().to_string()),
-            None => {
-                let own = std::env::current_exe().map_err(|error| error.to_string())?;
-                words.extend([own.display().to_string(), "--as".to_string(), name.to_string()]);
-            }
+        if let Place::Folder(folder) = &self.place {
+            words.push(folder.join(name).display().to_string());
+            return Ok(words);
+        }
+        let own = std::env::current_exe().map_err(|error| error.to_string())?;
+        words.extend([&own.display().to_string(), "--as", name].map(String::from));
+        if let Place::HereWrongly { what, .. } = self.place {
+            words.extend(["--wrongly", what].map(String::from));
         }
         Ok(words)
     }

@@ -1,0 +1,48 @@
+//! The words of a run.
+//!   USAGE       them
+//!   Options     what they come to
+//!   read        the options of this process
+
+use std::path::PathBuf;
+
+pub const USAGE: &str = "outside-tests [--seed N] [--files N] [--long] [--only TEXT] [--programs FOLDER] [--valgrind]
+  --seed N            another random run
+  --files N           about that many random files
+  --long              twenty times as many
+  --only TEXT         only what has TEXT in its name
+  --programs FOLDER   the programs lanes_graph, lanes_plan, lanes_sheet and lanes_check of a folder; without it this binary stands in
+  --valgrind          the programs under valgrind, on document 01's examples alone
+outside-tests --as NAME [--wrongly WHAT]
+  stands in for a program, or for one of which something is wrong, as the lines 'wrong program' have it";
+
+pub struct Options {
+    pub seed: u64,
+    pub files: usize,
+    pub only: String,
+    pub programs: Option<PathBuf>,
+    pub valgrind: bool,
+    pub stand_in: Option<String>,
+    pub wrongly: Option<String>,
+}
+
+pub fn read() -> Result<Options, String> {
+    let only = String::new();
+    let mut options = Options { seed: 1, files: 24_000, only, programs: None, valgrind: false, stand_in: None, wrongly: None };
+    let mut words = std::env::args().skip(1);
+    while let Some(word) = words.next() {
+        let mut value = || words.next().ok_or(format!("{word} wants a value\n{USAGE}"));
+        let number = |text: String| text.parse::<u64>().map_err(|_| format!("{text} is no number\n{USAGE}"));
+        match word.as_str() {
+            "--seed" => options.seed = number(value()?)?,
+            "--files" => options.files = number(value()?)? as usize,
+            "--long" => options.files *= 20,
+            "--only" => options.only = value()?,
+            "--programs" => options.programs = Some(PathBuf::from(value()?)),
+            "--valgrind" => options.valgrind = true,
+            "--as" => options.stand_in = Some(value()?),
+            "--wrongly" => options.wrongly = Some(value()?),
+            _ => return Err(format!("what is {word}?\n{USAGE}")),
+        }
+    }
+    Ok(options)
+}

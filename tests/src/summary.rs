@@ -1,0 +1,174 @@
+//! A run, told line by line.
+//!   Summary     what was tried so far; one function for each kind of thing that is tried
+//!   Right       the groups that a right engine or right programs pass; each wrong one must fail one of them
+//!   try_all     everything: the trial against itself, the engine, the programs, and what is wrong, which must fail
+
+use crate::engine::Engine;
+use crate::groups::{of_engine, of_programs, of_trial, run, run_programs, Group, PANIC};
+use crate::judge::{Seen, Trial};
+use crate::options::Options;
+use crate::programs::{Place, Programs, NOT_RUN};
+use crate::reference::Parts;
+use crate::wrong;
+use crate::wrong_programs::{self, WrongProgram};
+use std::process::ExitCode;
+
+/// Random files that a wrong engine is tried on.
+const WRONG_FILES: usize = 4_000;
+
+struct Summary<'a> {
+    options: &'a Options,
+    passed: usize,
+    failed: usize,
+    seen: Seen,
+}
+
+impl Summary<'_> {
+    fn is_wanted(&self, name: &str) -> bool {
+        name.contains(&self.options.only)
+    }
+
+    fn tell(&mut self, name: &str, outcome: Result<String, String>) {
+        match outcome {
+            Ok(note) => {
+                self.passed += 1;
+                println!("ok      {name}{note}");
+            }
+            Err(fault) => {
+                self.failed += 1;
+                println!("FAILED  {name}\n{fault}");
+            }
+        }
+    }
+
+    fn try_groups(&mut self, groups: &[Group], engine: &dyn Engine) {
+        for group in groups.iter().filter(|group| group.name.contains(&self.options.only)) {
+            let (seen, outcome) = run(group, engine, self.options.seed, self.options.files);
+            let note = match seen.compared {
+                0 => format!(" ({} files, {} calls)", seen.files, seen.calls),
+                compared => format!(" ({compared} compared)"),
+            };
+            self.tell(group.name, outcome.map(|_| note));
+            self.seen.add(&seen);
+        }
+    }
+
+    /// Every kind of answer and every refusal was met.
+    fn try_coverage(&mut self) {
+        let seen = &self.seen;
+        let answers = [seen.paths, seen.barriers, seen.stocks, seen.yes, seen.no];
+        let numbers = (1..=14).chain([42, 43, 44, 46, 47, 48, 49]);
+        let missing: Vec<u8> = numbers.filter(|number| !seen.refusals.contains_key(number)).collect();
+        let outcome = if missing.is_empty() && !answers.contains(&0) {
+            Ok(String::new())
+        } else {
+            Err(format!("refusals never met: {missing:?}; paths, barriers, stock answers, yes, no: {answers:?}"))
+        };
+        self.tell("every kind of answer and every refusal was met", outcome);
+    }
+
+    fn try_wrong_engines(&mut self) {
+        let groups = of_engine();
+        let seed = self.options.seed;
+        let right = Parts::right();
+        let mut right_one = Right::new(groups.len(), |place: usize| run(&groups[place], &right, seed, WRONG_FILES).1);
+        for (what, engine) in wrong::engines() {
+            if self.is_wanted(&what) {
+                let outcome = right_one.caught(|place| run(&groups[place], &engine, seed, WRONG_FILES).1);
+                let outcome = outcome.map(|place| format!(" (fails: {})", groups[place].name));
+                self.tell(&format!("wrong engine: {what}"), outcome);
+            }
+        }
+    }
+
+    // ---- programs
+
+    fn try_programs(&mut self) -> Trial {
+        let place = self.options.programs.clone().map_or(Place::Here, Place::Folder);
+        let valgrind: &[&str] = if self.options.valgrind { &["valgrind", "--quiet", "--error-exitcode=99"] } else { &[] };
+        let programs = Programs::new(place, valgrind.iter().map(|word| word.to_string()).collect())?;
+        let number = if self.options.valgrind { 1 } else { usize::MAX };
+        for group in of_programs().iter().take(number).filter(|group| group.name.contains(&self.options.only)) {
+            let before = programs.runs();
+            let outcome = run_programs(group, &programs, self.options.seed);
+            self.tell(group.name, outcome.map(|_| format!(" ({} runs)", programs.runs() - before)));
+        }
+        if self.options.only.is_empty() && !self.options.valgrind {
+            let missing = programs.never_printed();
+            let outcome = if missing.is_empty() {
+                Ok(String::new())
+            } else {
+                Err(format!("never printed (program, kind, number or lines): {missing:X?}"))
+            };
+            self.tell("programs: every refusal and every size of answer was printed", outcome);
+        }
+        Ok(())
+    }
+
+    fn try_wrong_programs(&mut self) -> Trial {
+        let groups = of_programs();
+        let seed = self.options.seed;
+        let right = Programs::new(Place::Here, Vec::new())?;
+        let mut right_one = Right::new(groups.len(), |place: usize| run_programs(&groups[place], &right, seed));
+        for WrongProgram { program, what, .. } in wrong_programs::all() {
+            let name = format!("wrong program: {program} {what}");
+            if self.is_wanted(&name) {
+                let wrong = Programs::new(Place::HereWrongly { program, what }, Vec::new())?;
+                let outcome = right_one.caught(|place| run_programs(&groups[place], &wrong, seed));
+                self.tell(&name, outcome.map(|place| format!(" (fails: {})", groups[place].name)));
+            }
+        }
+        Ok(())
+    }
+}
+
+/// A right engine or right programs, and which groups they pass, as far as that was asked.
+struct Right<F: Fn(usize) -> Trial> {
+    tried: F,
+    passes: Vec<Option<bool>>,
+}
+
+impl<F: Fn(usize) -> Trial> Right<F> {
+    fn new(groups: usize, tried: F) -> Right<F> {
+        Right { tried, passes: vec![None; groups] }
+    }
+
+    /// The first group that a wrong one fails and the right one passes, by its place. A panic, or what could not be run, is no such failure.
+    fn caught(&mut self, wrong: impl Fn(usize) -> Trial) -> Result<usize, String> {
+        for place in 0..self.passes.len() {
+            match wrong(place) {
+                Err(fault) if fault.starts_with(NOT_RUN) || fault == PANIC => return Err(fault),
+                Err(_) if self.passes(place) => return Ok(place),
+                _ => (),
+            }
+        }
+        Err("was not caught".to_string())
+    }
+
+    fn passes(&mut self, place: usize) -> bool {
+        *self.passes[place].get_or_insert_with(|| (self.tried)(place).is_ok())
+    }
+}
+
+pub fn try_all(options: &Options, engine: &dyn Engine) -> ExitCode {
+    let mut summary = Summary { options, passed: 0, failed: 0, seen: Seen::default() };
+    summary.try_groups(&of_trial(), engine);
+    summary.try_groups(&of_engine(), engine);
+    if options.only.is_empty() {
+        summary.try_coverage();
+    }
+    let tried = summary.try_programs().and_then(|_| {
+        summary.try_wrong_engines();
+        summary.try_wrong_programs()
+    });
+    if let Err(fault) = tried {
+        summary.tell("programs", Err(fault));
+    }
+    println!("{}", summary.seen);
+    println!("{} passed, {} failed", summary.passed, summary.failed);
+    if summary.failed == 0 {
+        ExitCode::SUCCESS
+    } else {
+        ExitCode::FAILURE
+    }
+}

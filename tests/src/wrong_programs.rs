@@ -1,0 +1,162 @@
+//! Programs that go about it wrongly. The tests must fail on each of them.
+//!   WrongProgram     a program, what is wrong of it, and its manner
+//!   all              every one: each slip in each program that can make it, the other programs being right
+//!   manner           that of a program, right or with a slip
+
+use crate::frames::path_file;
+use crate::prints::{refusal_line, CHECK_PROGRAM, GRAPH_PROGRAM, PLAN_PROGRAM, SHEET_PROGRAM};
+use crate::stand_in::{read_all, Manner, CERTIFICATE_FILE, GRAPH_FILE, WRONG_STATUS};
+use std::io::{Read, Result as Done};
+
+pub struct WrongProgram {
+    pub program: &'static str,
+    pub what: &'static str,
+    pub manner: Manner,
+}
+
+const EACH: [&str; 4] = [GRAPH_PROGRAM, PLAN_PROGRAM, SHEET_PROGRAM, CHECK_PROGRAM];
+const ANSWERING: [&str; 3] = [GRAPH_PROGRAM, PLAN_PROGRAM, SHEET_PROGRAM];
+
+type Slip = (&'static str, fn(Manner) -> Manner);
+
+pub fn all() -> Vec<WrongProgram> {
+    let lists: [(&[&'static str], &[Slip]); 8] = [
+        (&EACH, &READING),
+        (&EACH, &PRINTING),
+        (&ANSWERING, &ANSWERS),
+        (&[GRAPH_PROGRAM], &[("cuts answers at 1,024 bytes", cut::<1_024>), ("cuts answers at 1,800 bytes", cut::<1_800>)]),
+        (&[PLAN_PROGRAM], &[("cuts answers at 448 bytes", cut::<448>)]),
+        (&[SHEET_PROGRAM], &[("cuts answers at 896 bytes", cut::<896>)]),
+        (&[CHECK_PROGRAM], &OF_CHECK),
+        (&[CHECK_PROGRAM], &UNOPENED),
+    ];
+    let each = |program: &'static str, slips: &[Slip]| -> Vec<WrongProgram> {
+        slips.iter().map(|(what, slip)| WrongProgram { program, what, manner: slip(Manner::right()) }).collect()
+    };
+    lists.iter().flat_map(|(programs, slips)| programs.iter().flat_map(move |program| each(program, slips))).collect()
+}
+
+/// The manner of a program in which something given is wrong, or nothing.
+pub fn manner(program: &str, wrongly: Option<&str>) -> Result<Manner, String> {
+    if !EACH.contains(&program) {
+        return Err(format!("there is no program {program}"));
+    }
+    let Some(what) = wrongly else {
+        return Ok(Manner::right());
+    };
+    let found = all().into_iter().find(|wrong| wrong.program == program && wrong.what == what);
+    found.map(|wrong| wrong.manner).ok_or(format!("there is no {program} that {what}"))
+}
+
+// ---- reading
+
+const READING: [Slip; 7] = [
+    ("reads only the first 4,096 bytes", |right| Manner { read: |_, input| first(input, 4_096), ..right }),
+    ("reads only the first 32,768 bytes", |right| Manner { read: |_, input| first(input, 32_768), ..right }),
+    ("reads only the first 60,000 bytes", |right| Manner { read: |_, input| first(input, 60_000), ..right }),
+    ("stops reading at a zero byte", |right| Manner { read: |_, input| changed(input, before_zero), ..right }),
+    ("passes over carriage returns", |right| Manner { read: |_, input| changed(input, without_returns), ..right }),
+    ("takes lower-case digits", |right| Manner { read: |_, input| changed(input, |bytes| bytes.to_ascii_uppercase()), ..right }),
+    ("takes a last line without its line feed", |right| Manner { read: |_, input| changed(input, ended), ..right }),
+];
+
+fn first(input: &mut dyn Read, most: u64) -> Done<Vec<u8>> {
+    read_all(&mut input.take(most))
+}
+
+fn changed(input: &mut dyn Read, change: fn(Vec<u8>) -> Vec<u8>) -> Done<Vec<u8>> {
+    read_all(input).map(change)
+}
+
+fn before_zero(bytes: Vec<u8>) -> Vec<u8> {
+    bytes.into_iter().take_while(|byte| *byte != 0).collect()
+}
+
+fn without_returns(bytes: Vec<u8>) -> Vec<u8> {
+    bytes.into_iter().filter(|byte| *byte != b'\r').collect()
+}
+
+fn ended(mut bytes: Vec<u8>) -> Vec<u8> {
+    if bytes.last().is_some_and(|byte| *byte != b'\n') {
+        bytes.push(b'\n');
+    }
+    bytes
+}
+
+/// Whatever one reading gives; of a pipe that may be a piece.
+fn read_once(_: &str, input: &mut dyn Read) -> Done<Vec<u8>> {
+    let mut bytes = vec![0; 60_001];
+    let number = input.read(&mut bytes)?;
+    bytes.truncate(number);
+    Ok(bytes)
+}
+
+// ---- printing
+
+const PRINTING: [Slip; 7] = [
+    ("prints no last line feed", |right| Manner { print: |text| text[..text.len() - 1].to_vec(), ..right }),
+    ("prints one line feed more", |right| Manner { print: |text| [&text[..], b"\n"].concat(), ..right }),
+    ("prints carriage returns", |right| Manner { print: with_returns, ..right }),
+    ("prints lower-case digits", |right| Manner { print: |text| text.to_ascii_lowercase(), ..right }),
+    ("prints refusals in base ten", |right| Manner { refusal: |number| format!("7E{number:02}\n").into_bytes(), ..right }),
+    ("prints nothing for a refusal", |right| Manner { refusal: |_| Vec::new(), ..right }),
+    ("ends with status 1", |right| Manner { status: WRONG_STATUS, ..right }),
+];
+
+fn with_returns(text: Vec<u8>) -> Vec<u8> {
+    String::from_utf8_lossy(&text).replace('\n', "\r\n").into_bytes()
+}
+
+const ANSWERS: [Slip; 4] = [
+    ("prints only answers under 64 bytes", |right| Manner {
+        print: |text| if text.len() < 64 { text } else { Vec::new() },
+        ..right
+    }),
+    ("cuts answers at 256 bytes", cut::<256>),
+    ("loses answers of 41 lines", |right| Manner { print: |text| if lines(&text) == 41 { Vec::new() } else { text }, ..right }),
+    ("reads its input once", |right| Manner { read: read_once, ..right }),
+];
+
+fn lines(text: &[u8]) -> usize {
+    text.iter().filter(|byte| **byte == b'\n').count()
+}
+
+fn cut<const MOST: usize>(right: Manner) -> Manner {
+    Manner { print: |text| text.into_iter().take(MOST).collect(), ..right }
+}
+
+// ---- the check
+
+const OF_CHECK: [Slip; 5] = [
+    ("takes graph and certificate for each other", |right| Manner { names: [CERTIFICATE_FILE, GRAPH_FILE], ..right }),
+    ("reads only the first 1,800 bytes of cert.hex", |right| Manner { read: short_certificate, ..right }),
+    ("says yes for no and no for yes", |right| Manner { print: other_verdict, ..right }),
+    ("prints a certificate's refusal without 40", |right| Manner { refusal: without_40, ..right }),
+    ("prints a certificate's refusal with 64 added", |right| Manner { refusal: with_64, ..right }),
+];
+
+fn short_certificate(name: &str, input: &mut dyn Read) -> Done<Vec<u8>> {
+    first(input, if name == CERTIFICATE_FILE { 1_800 } else { u64::MAX })
+}
+
+fn other_verdict(text: Vec<u8>) -> Vec<u8> {
+    match &text[..] {
+        b"7A00\n" => b"7A01\n".to_vec(),
+        b"7A01\n" => b"7A00\n".to_vec(),
+        _ => text,
+    }
+}
+
+fn without_40(number: u8) -> Vec<u8> {
+    refusal_line(if number > 40 { number - 40 } else { number })
+}
+
+fn with_64(number: u8) -> Vec<u8> {
+    refusal_line(if number > 40 { number + 24 } else { number })
+}
+
+const UNOPENED: [Slip; 3] = [
+    ("takes a missing file for one that is too long", |right| Manner { unopened: || vec![b'0'; 60_001], ..right }),
+    ("takes a missing file for an empty line", |right| Manner { unopened: || b"\n".to_vec(), ..right }),
+    ("takes a missing file for an empty path", |right| Manner { unopened: || path_file(&[]), ..right }),
+];
