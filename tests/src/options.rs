@@ -9,7 +9,7 @@ pub const USAGE: &str = "outside-tests [--seed N] [--files N] [--long] [--only T
   --seed N            another random run
   --files N           about that many random files
   --long              twenty times as many
-  --only TEXT         only what has TEXT in its name
+  --only TEXT         only what has TEXT in its name; a failure where nothing has
   --programs FOLDER   the programs lanes_graph, lanes_plan, lanes_sheet and lanes_check of a folder; without it this binary stands in
   --valgrind          the programs under valgrind, on document 01's examples alone
 outside-tests --as NAME [--wrongly WHAT]

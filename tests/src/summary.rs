@@ -73,10 +73,10 @@ impl Summary<'_> {
         let right = Parts::right();
         let mut right_one = Right::new(groups.len(), |place: usize| run(&groups[place], &right, seed, WRONG_FILES).1);
         for (what, engine) in wrong::engines() {
-            if self.is_wanted(&what) {
+            let name = format!("wrong engine: {what}");
+            if self.is_wanted(&name) {
                 let outcome = right_one.caught(|place| run(&groups[place], &engine, seed, WRONG_FILES).1);
-                let outcome = outcome.map(|place| format!(" (fails: {})", groups[place].name));
-                self.tell(&format!("wrong engine: {what}"), outcome);
+                self.tell(&name, outcome.map(|place| format!(" (fails: {})", groups[place].name)));
             }
         }
     }
@@ -163,6 +163,12 @@ pub fn try_all(options: &Options, engine: &dyn Engine) -> ExitCode {
     });
     if let Err(fault) = tried {
         summary.tell("programs", Err(fault));
+    }
+    if summary.passed + summary.failed == 0 {
+        summary.tell(
+            &format!("--only {}", options.only),
+            Err("nothing that can be tried alone has this text in its name".to_string()),
+        );
     }
     println!("{}", summary.seen);
     println!("{} passed, {} failed", summary.passed, summary.failed);
