@@ -1,5 +1,5 @@
 //! All that is tried, by name.
-//!   Group       a name, a share of the files, and what is tried
+//!   Group       a name, what is tried, and whether its files are drawn by the seed; of an engine, or of programs
 //!   of_trial    the trial against itself; no engine is called
 //!   of_engine   what an engine must pass; those that cost least come first
 //!   of_programs what the programs must pass
@@ -13,91 +13,114 @@ use crate::random::Random;
 use crate::{cases, damage, exhaustive, large, program_trials, self_checks, sizes, trials};
 use std::panic::{catch_unwind, AssertUnwindSafe};
 
-pub struct Group {
+pub struct Group<T> {
     pub name: &'static str,
-    /// of a thousand files; 0 where the number of files is fixed
-    pub share: usize,
-    pub tried: fn(&mut Judge, usize) -> Trial,
+    /// whether its files are drawn by the seed; otherwise they are the same with every seed
+    pub drawn: bool,
+    pub tried: T,
 }
 
-const fn group(name: &'static str, share: usize, tried: fn(&mut Judge, usize) -> Trial) -> Group {
-    Group { name, share, tried }
+pub type EngineGroup = Group<Tried>;
+pub type ProgramGroup = Group<fn(&Programs, &mut Random) -> Trial>;
+
+pub enum Tried {
+    Whole(fn(&mut Judge) -> Trial),
+    /// that many of a thousand files
+    Share(usize, fn(&mut Judge, usize) -> Trial),
 }
 
-pub fn of_trial() -> Vec<Group> {
+impl<T> Group<T> {
+    /// The seeds to try it with: all of them where its files are drawn, otherwise the first.
+    pub fn seeds<'a>(&self, seeds: &'a [u64]) -> &'a [u64] {
+        if self.drawn {
+            seeds
+        } else {
+            &seeds[..1]
+        }
+    }
+}
+
+const fn fixed(name: &'static str, tried: fn(&mut Judge) -> Trial) -> EngineGroup {
+    Group { name, drawn: false, tried: Tried::Whole(tried) }
+}
+
+const fn drawn(name: &'static str, tried: fn(&mut Judge) -> Trial) -> EngineGroup {
+    Group { name, drawn: true, tried: Tried::Whole(tried) }
+}
+
+const fn share(name: &'static str, of_a_thousand: usize, tried: fn(&mut Judge, usize) -> Trial) -> EngineGroup {
+    Group { name, drawn: true, tried: Tried::Share(of_a_thousand, tried) }
+}
+
+pub fn of_trial() -> Vec<EngineGroup> {
     vec![
-        group("all pairings agree with the blossom algorithm", 200, self_checks::pairings_agree),
-        group("the bound of Tutte and Berge is met", 10, self_checks::bounds_are_met),
-        group("all regular paths agree with matchings of arcs", 100, self_checks::paths_agree),
-        group("a path to each node reached in larger graphs", 10, self_checks::paths_are_found),
-        group("a path, or else the canonical barrier", 200, self_checks::barriers_exclude_paths),
+        share("all pairings agree with the blossom algorithm", 200, self_checks::pairings_agree),
+        share("the bound of Tutte and Berge is met", 10, self_checks::bounds_are_met),
+        share("all regular paths agree with matchings of arcs", 100, self_checks::paths_agree),
+        share("a path to each node reached in larger graphs", 10, self_checks::paths_are_found),
+        share("a path, or else the canonical barrier", 200, self_checks::barriers_exclude_paths),
     ]
 }
 
-pub fn of_engine() -> Vec<Group> {
+pub fn of_engine() -> Vec<EngineGroup> {
     vec![
-        group("G1 to G5", 0, |judge, _| cases::graph_examples(judge)),
-        group("S1 to S7", 0, |judge, _| cases::stock_examples(judge)),
-        group("the folder examples/", 0, |judge, _| cases::examples_folder(judge)),
-        group("tallies", 0, |judge, _| cases::tallies(judge)),
-        group("traps", 0, |judge, _| cases::traps(judge)),
-        group("edges", 0, |judge, _| cases::edges(judge)),
-        group("points left to the reader", 0, |judge, _| cases::points_left_to_the_reader(judge)),
-        group("truncated files", 0, |judge, _| damage::truncated_files(judge)),
-        group("single faults", 30, trials::single_faults),
-        group("pairs of faults", 50, trials::pairs_of_faults),
-        group("faults in both files of a check", 0, |judge, _| trials::faults_in_both_files(judge)),
-        group("certificates", 100, trials::certificates),
-        group("certificates damaged at every byte", 0, |judge, _| damage::damaged_certificates(judge)),
-        group("files damaged at every byte", 0, |judge, _| damage::damaged_files(judge)),
-        group("answers damaged at one byte", 60, damage::damaged_random_answers),
-        group("every table of classes", 60, exhaustive::all_classes),
-        group("every run of arcs", 60, exhaustive::all_runs),
-        group("random bytes", 60, damage::random_bytes),
-        group("random frames", 60, damage::random_frames),
-        group("small graphs", 280, trials::small_graphs),
-        group("small stocks", 220, trials::small_stocks),
-        group("doubled tables", 60, trials::doubled_tables),
-        group("middling graphs", 40, trials::middling_graphs),
-        group("middling stocks", 20, trials::middling_stocks),
-        group("every graph of one or two mate pairs", 0, |judge, _| exhaustive::all_graphs(judge)),
-        group("every stock of up to five cameras", 0, |judge, _| exhaustive::all_stocks(judge)),
-        group("paths and barriers of every size", 0, |judge, _| sizes::graphs(judge)),
-        group("sheets and plans of every size", 0, |judge, _| sizes::stocks(judge)),
-        group("127 parts", 0, |judge, _| large::many_parts(judge)),
-        group("buds inside buds", 0, |judge, _| large::nested_buds(judge)),
-        group("128 mate pairs and 8,192 arcs", 0, |judge, _| large::dense_graphs(judge)),
-        group("128 mate pairs and few arcs", 1, large::sparse_graphs),
-        group("doubled tables of 127 cameras", 0, |judge, _| large::largest_tables(judge)),
-        group("127 cameras and 3,900 fits", 0, |judge, _| large::dense_stocks(judge)),
-        group("42 triangles in a row", 0, |judge, _| large::triangles(judge)),
-        group("odd rings", 0, |judge, _| large::odd_rings(judge)),
-        group("ears of 90 to 127 cameras", 1, large::ears),
+        fixed("G1 to G5", cases::graph_examples),
+        fixed("S1 to S7", cases::stock_examples),
+        fixed("the folder examples/", cases::examples_folder),
+        fixed("tallies", cases::tallies),
+        fixed("traps", cases::traps),
+        fixed("truncated files", damage::truncated_files),
+        share("single faults", 30, trials::single_faults),
+        share("pairs of faults", 50, trials::pairs_of_faults),
+        drawn("faults in both files of a check", trials::faults_in_both_files),
+        fixed("edges", cases::edges),
+        fixed("points left to the reader", cases::points_left_to_the_reader),
+        share("certificates", 100, trials::certificates),
+        fixed("certificates damaged at every byte", damage::damaged_certificates),
+        fixed("files damaged at every byte", damage::damaged_files),
+        share("answers damaged at one byte", 60, damage::damaged_random_answers),
+        share("every table of classes", 60, exhaustive::all_classes),
+        share("every run of arcs", 60, exhaustive::all_runs),
+        share("random bytes", 60, damage::random_bytes),
+        share("random frames", 60, damage::random_frames),
+        share("small graphs", 280, trials::small_graphs),
+        share("small stocks", 220, trials::small_stocks),
+        share("doubled tables", 60, trials::doubled_tables),
+        share("middling graphs", 40, trials::middling_graphs),
+        share("middling stocks", 20, trials::middling_stocks),
+        fixed("every graph of one or two mate pairs", exhaustive::all_graphs),
+        fixed("every stock of up to five cameras", exhaustive::all_stocks),
+        drawn("paths and barriers of every size", sizes::graphs),
+        drawn("sheets and plans of every size", sizes::stocks),
+        drawn("127 parts", large::many_parts),
+        drawn("buds inside buds", large::nested_buds),
+        drawn("128 mate pairs and 8,192 arcs", large::dense_graphs),
+        share("128 mate pairs and few arcs", 1, large::sparse_graphs),
+        drawn("doubled tables of 127 cameras", large::largest_tables),
+        drawn("127 cameras and 3,900 fits", large::dense_stocks),
+        drawn("42 triangles in a row", large::triangles),
+        drawn("odd rings", large::odd_rings),
+        share("ears of 90 to 127 cameras", 1, large::ears),
     ]
 }
 
-pub struct ProgramGroup {
-    pub name: &'static str,
-    pub tried: fn(&Programs, &mut Random) -> Trial,
-}
-
-const fn programs(name: &'static str, tried: fn(&Programs, &mut Random) -> Trial) -> ProgramGroup {
-    ProgramGroup { name, tried }
+const fn programs(name: &'static str, drawn: bool, tried: fn(&Programs, &mut Random) -> Trial) -> ProgramGroup {
+    Group { name, drawn, tried }
 }
 
 /// Document 01's examples first, then those that cost least.
 pub fn of_programs() -> Vec<ProgramGroup> {
     vec![
-        programs("programs: document 01's examples", program_trials::examples),
-        programs("programs: files that can't be opened", program_trials::unopened_files),
-        programs("programs: every refusal", program_trials::refusals),
-        programs("programs: long and empty input", program_trials::lengths),
-        programs("programs: the largest files", program_trials::largest_files),
-        programs("programs: bytes that are no digits", program_trials::other_bytes),
-        programs("programs: middling graphs and stocks", program_trials::middling_files),
-        programs("programs: input in pieces", program_trials::pieces),
-        programs("programs: sheets and plans of every size", program_trials::stock_sizes),
-        programs("programs: paths and barriers of every size", program_trials::graph_sizes),
+        programs("programs: document 01's examples", false, program_trials::examples),
+        programs("programs: files that can't be opened", false, program_trials::unopened_files),
+        programs("programs: every refusal", true, program_trials::refusals),
+        programs("programs: long and empty input", false, program_trials::lengths),
+        programs("programs: the largest files", true, program_trials::largest_files),
+        programs("programs: bytes that are no digits", true, program_trials::other_bytes),
+        programs("programs: middling graphs and stocks", true, program_trials::middling_files),
+        programs("programs: input in pieces", false, program_trials::pieces),
+        programs("programs: sheets and plans of every size", false, program_trials::stock_sizes),
+        programs("programs: paths and barriers of every size", false, program_trials::graph_sizes),
     ]
 }
 
@@ -113,10 +136,12 @@ fn without_panic(tried: impl FnOnce() -> Trial) -> Trial {
 }
 
 /// What was seen, and how it went.
-pub fn run(group: &Group, engine: &dyn Engine, seed: u64, files: usize) -> (Seen, Trial) {
+pub fn run(group: &EngineGroup, engine: &dyn Engine, seed: u64, files: usize) -> (Seen, Trial) {
     let mut judge = Judge::new(engine, own_seed(group.name, seed));
-    let share = (files * group.share).div_ceil(1_000);
-    let outcome = without_panic(|| (group.tried)(&mut judge, share));
+    let outcome = without_panic(|| match group.tried {
+        Tried::Whole(tried) => tried(&mut judge),
+        Tried::Share(of_a_thousand, tried) => tried(&mut judge, (files * of_a_thousand).div_ceil(1_000)),
+    });
     (judge.seen, outcome)
 }
 

@@ -26,7 +26,8 @@ fn run() -> Result<ExitCode, String> {
     if let Some(program) = &options.stand_in {
         return stand_in_for(engine.as_ref(), program, &options);
     }
-    println!("seed {}, about {} random files, engine: {name}", options.seed, options.files);
+    let seeds: Vec<String> = options.seeds.iter().map(u64::to_string).collect();
+    println!("seed {}, about {} random files each, engine: {name}", seeds.join(" and "), options.files);
     Ok(summary::try_all(&options, engine.as_ref()))
 }
 

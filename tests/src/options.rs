@@ -3,11 +3,13 @@
 //!   Options     what they come to
 //!   read        the options of this process
 
+use crate::random::Random;
 use std::path::PathBuf;
+use std::time::{SystemTime, UNIX_EPOCH};
 
 pub const USAGE: &str = "outside-tests [--seed N] [--files N] [--long] [--only TEXT] [--programs FOLDER] [--valgrind]
-  --seed N            another random run
-  --files N           about that many random files
+  --seed N            this seed alone; without it seed 1 and, for all that is drawn at random, a fresh one besides, which is printed
+  --files N           about that many random files with each seed
   --long              twenty times as many
   --only TEXT         only what has TEXT in its name; a failure where nothing has
   --programs FOLDER   the programs lanes_graph, lanes_plan, lanes_sheet and lanes_check of a folder; without it this binary stands in
@@ -16,7 +18,8 @@ outside-tests --as NAME [--wrongly WHAT]
   stands in for a program, or for one of which something is wrong, as the lines 'wrong program' have it";
 
 pub struct Options {
-    pub seed: u64,
+    /// the first for all that is tried, the others for what is drawn
+    pub seeds: Vec<u64>,
     pub files: usize,
     pub only: String,
     pub programs: Option<PathBuf>,
@@ -25,15 +28,29 @@ pub struct Options {
     pub wrongly: Option<String>,
 }
 
+/// A seed other than 1, by the clock and the number of this process; short enough to be typed.
+fn fresh_seed() -> u64 {
+    let clock = SystemTime::now().duration_since(UNIX_EPOCH).map_or(0, |since| since.as_nanos() as u64);
+    let mixed = Random::new(clock ^ (u64::from(std::process::id()) << 32)).number();
+    2 + mixed % 999_999_998
+}
+
 pub fn read() -> Result<Options, String> {
-    let only = String::new();
-    let mut options = Options { seed: 1, files: 24_000, only, programs: None, valgrind: false, stand_in: None, wrongly: None };
+    let mut options = Options {
+        seeds: vec![1, fresh_seed()],
+        files: 24_000,
+        only: String::new(),
+        programs: None,
+        valgrind: false,
+        stand_in: None,
+        wrongly: None,
+    };
     let mut words = std::env::args().skip(1);
     while let Some(word) = words.next() {
         let mut value = || words.next().ok_or(format!("{word} wants a value\n{USAGE}"));
         let number = |text: String| text.parse::<u64>().map_err(|_| format!("{text} is no number\n{USAGE}"));
         match word.as_str() {
-            "--seed" => options.seed = number(value()?)?,
+            "--seed" => options.seeds = vec![number(value()?)?],
             "--files" => options.files = number(value()?)? as usize,
             "--long" => options.files *= 20,
             "--only" => options.only = value()?,

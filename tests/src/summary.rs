@@ -4,7 +4,7 @@
 //!   try_all     everything: the trial against itself, the engine, the programs, and what is wrong, which must fail
 
 use crate::engine::Engine;
-use crate::groups::{of_engine, of_programs, of_trial, run, run_programs, Group, PANIC};
+use crate::groups::{of_engine, of_programs, of_trial, run, run_programs, EngineGroup, PANIC};
 use crate::judge::{Seen, Trial};
 use crate::options::Options;
 use crate::programs::{Place, Programs, NOT_RUN};
@@ -41,15 +41,18 @@ impl Summary<'_> {
         }
     }
 
-    fn try_groups(&mut self, groups: &[Group], engine: &dyn Engine) {
-        for group in groups.iter().filter(|group| group.name.contains(&self.options.only)) {
-            let (seen, outcome) = run(group, engine, self.options.seed, self.options.files);
-            let note = match seen.compared {
-                0 => format!(" ({} files, {} calls)", seen.files, seen.calls),
-                compared => format!(" ({compared} compared)"),
-            };
-            self.tell(group.name, outcome.map(|_| note));
-            self.seen.add(&seen);
+    fn try_groups(&mut self, groups: &[EngineGroup], engine: &dyn Engine) {
+        let Options { seeds, files, only, .. } = self.options;
+        for group in groups.iter().filter(|group| group.name.contains(only)) {
+            for seed in group.seeds(seeds) {
+                let (seen, outcome) = run(group, engine, *seed, *files);
+                let note = match seen.compared {
+                    0 => format!(" ({} files, {} calls)", seen.files, seen.calls),
+                    compared => format!(" ({compared} compared)"),
+                };
+                self.tell(&format!("{}, seed {seed}", group.name), outcome.map(|_| note));
+                self.seen.add(&seen);
+            }
         }
     }
 
@@ -69,7 +72,7 @@ impl Summary<'_> {
 
     fn try_wrong_engines(&mut self) {
         let groups = of_engine();
-        let seed = self.options.seed;
+        let seed = self.options.seeds[0];
         let right = Parts::right();
         let mut right_one = Right::new(groups.len(), |place: usize| run(&groups[place], &right, seed, WRONG_FILES).1);
         for (what, engine) in wrong::engines() {
@@ -88,10 +91,14 @@ impl Summary<'_> {
         let valgrind: &[&str] = if self.options.valgrind { &["valgrind", "--quiet", "--error-exitcode=99"] } else { &[] };
         let programs = Programs::new(place, valgrind.iter().map(|word| word.to_string()).collect())?;
         let number = if self.options.valgrind { 1 } else { usize::MAX };
-        for group in of_programs().iter().take(number).filter(|group| group.name.contains(&self.options.only)) {
-            let before = programs.runs();
-            let outcome = run_programs(group, &programs, self.options.seed);
-            self.tell(group.name, outcome.map(|_| format!(" ({} runs)", programs.runs() - before)));
+        let Options { seeds, only, .. } = self.options;
+        for group in of_programs().iter().take(number).filter(|group| group.name.contains(only)) {
+            for seed in group.seeds(seeds) {
+                let before = programs.runs();
+                let outcome = run_programs(group, &programs, *seed);
+                let note = format!(" ({} runs)", programs.runs() - before);
+                self.tell(&format!("{}, seed {seed}", group.name), outcome.map(|_| note));
+            }
         }
         if self.options.only.is_empty() && !self.options.valgrind {
             let missing = programs.never_printed();
@@ -107,7 +114,7 @@ impl Summary<'_> {
 
     fn try_wrong_programs(&mut self) -> Trial {
         let groups = of_programs();
-        let seed = self.options.seed;
+        let seed = self.options.seeds[0];
         let right = Programs::new(Place::Here, Vec::new())?;
         let mut right_one = Right::new(groups.len(), |place: usize| run_programs(&groups[place], &right, seed));
         for WrongProgram { program, what, .. } in wrong_programs::all() {
