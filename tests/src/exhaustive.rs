@@ -1,5 +1,5 @@
 //! Everything of a size.
-//!   all_graphs      every graph of one mate pair and up to three pairs of arcs; of two mate pairs likewise, with source 0
+//!   all_graphs      every graph of one or two mate pairs and up to three pairs of arcs, from every source
 //!   all_stocks      every stock of up to five cameras, with every pairing lit
 //!   all_classes     every table of classes up to 04 that agrees with mates, for random small graphs
 //!   all_runs        every run of up to three arcs, for random small graphs
@@ -11,7 +11,8 @@ use crate::judge::{shown, Judge, Trial};
 use crate::stock_trial::{each_pairing, Stock};
 
 pub fn all_graphs(judge: &mut Judge) -> Trial {
-    for (pairs, source) in [(1, 0), (1, 1), (2, 0)] {
+    let sources = [1, 2].into_iter().flat_map(|pairs| (0..2 * pairs).map(move |source| (pairs, source)));
+    for (pairs, source) in sources {
         for arc_pairs in 0..=3 {
             try_graphs(judge, &mut Graph { pairs, source, arcs: Vec::new() }, arc_pairs)?;
         }
