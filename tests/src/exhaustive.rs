@@ -1,7 +1,7 @@
 //! Everything of a size.
 //!   all_graphs      every graph of one or two mate pairs and up to three pairs of arcs, from every source
 //!   all_stocks      every stock of up to five cameras, with every pairing lit
-//!   all_classes     every table of classes up to 04 that agrees with mates, for random small graphs
+//!   all_classes     every table of classes up to 04 for random graphs of one or two mate pairs; of three those that agree with mates
 //!   all_runs        every run of up to three arcs, for random small graphs
 
 use crate::frames::{barrier_file, path_file, Pair};
@@ -61,8 +61,7 @@ pub fn all_classes(judge: &mut Judge, files: usize) -> Trial {
     while judge.seen.files < last {
         let graph = some_graph(judge);
         let open = graph_trial::reachable(&graph)[mate(graph.source)];
-        for number in 0..5_usize.pow(graph.pairs as u32) {
-            let classes = classes_by(number, graph.pairs);
+        for classes in tables(graph.pairs) {
             judge.certificate(&graph.file(), &barrier_file(&classes))?;
             if open && is_barrier(&graph, &classes) {
                 return Err(format!("the trial has a path and a barrier\n{}", shown(&graph.file())));
@@ -72,10 +71,14 @@ pub fn all_classes(judge: &mut Judge, files: usize) -> Trial {
     Ok(())
 }
 
-/// A digit of base five for each mate pair: M, A and its mate, its mate and A, X1, X2.
-fn classes_by(number: usize, pairs: usize) -> Vec<usize> {
-    let both = [[0, 0], [1, 2], [2, 1], [3, 3], [4, 4]];
-    (0..pairs).flat_map(|pair| both[number / 5_usize.pow(pair as u32) % 5]).collect()
+/// Every table of classes 00 to 04 for the nodes of one or two mate pairs; of three those that agree with mates.
+fn tables(pairs: usize) -> Vec<Vec<usize>> {
+    let agreeing = [[0, 0], [1, 2], [2, 1], [3, 3], [4, 4]];
+    let every: Vec<[usize; 2]> = (0..25).map(|number| [number / 5, number % 5]).collect();
+    let of_pair = if pairs <= 2 { &every[..] } else { &agreeing };
+    (0..pairs).fold(vec![Vec::new()], |tables, _| {
+        tables.iter().flat_map(|table| of_pair.iter().map(|two| [&table[..], two].concat())).collect()
+    })
 }
 
 pub fn all_runs(judge: &mut Judge, files: usize) -> Trial {

@@ -79,7 +79,7 @@ pub fn of_engine() -> Vec<EngineGroup> {
         fixed("certificates damaged at every byte", damage::damaged_certificates),
         fixed("files damaged at every byte", damage::damaged_files),
         share("answers damaged at one byte", 60, damage::damaged_random_answers),
-        share("every table of classes", 60, exhaustive::all_classes),
+        share("every table of classes", 400, exhaustive::all_classes),
         share("every run of arcs", 60, exhaustive::all_runs),
         share("random bytes", 60, damage::random_bytes),
         share("random frames", 60, damage::random_frames),
