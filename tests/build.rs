@@ -1,6 +1,6 @@
 //! Links static libraries of proved crates. LANES_LIBRARY=FOLDER links FOLDER/liblanes_c.a, the engine's calls, and sets
-//! cfg(lanes_library); a crate below it likewise, as SEARCH_LIBRARY=FOLDER with FOLDER/libsearch.a. Without them the tests are built
-//! alone, and try the reference engine.
+//! cfg(lanes_library), and LANES_LINKED to what was linked; a crate below it likewise, as SEARCH_LIBRARY=FOLDER with FOLDER/libsearch.a.
+//! Without them the tests are built alone, and try the reference engine.
 
 use std::env;
 
@@ -17,6 +17,7 @@ fn main() {
             println!("cargo:rustc-link-search=native={folder}");
             println!("cargo:rustc-link-lib=static={library}");
             println!("cargo:rustc-cfg={name}_library");
+            println!("cargo:rustc-env={}_LINKED={folder}/lib{library}.a", name.to_uppercase());
         }
     }
 }

@@ -1,7 +1,7 @@
 //! The engine as the tests see it: document 01's calls.
 //!   Tally, Told, Verdict     the counts; a call's refusal number and answer size; what the check says
 //!   Engine                   the four calls
-//!   Library                  the proved engine in its static library (only where it is linked, see build.rs)
+//!   linked, Library          the proved engine in its static library (only where it is linked, see build.rs)
 
 #[derive(Clone, Copy, Debug, Default, PartialEq)]
 pub struct Tally {
@@ -32,14 +32,14 @@ pub trait Engine {
     fn check(&self, graph: &[u8], certificate: &[u8]) -> Verdict;
 }
 
-/// The proved engine, where it is linked.
+/// The proved engine, where it is linked, and the file that was linked.
 #[cfg(lanes_library)]
-pub fn linked() -> Option<Box<dyn Engine>> {
-    Some(Box::new(library::Library))
+pub fn linked() -> Option<(Box<dyn Engine>, &'static str)> {
+    Some((Box::new(library::Library), env!("LANES_LINKED")))
 }
 
 #[cfg(not(lanes_library))]
-pub fn linked() -> Option<Box<dyn Engine>> {
+pub fn linked() -> Option<(Box<dyn Engine>, &'static str)> {
     None
 }
 

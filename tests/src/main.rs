@@ -6,6 +6,7 @@ use outside_tests::options::{self, Options};
 use outside_tests::reference::Parts;
 use outside_tests::{stand_in, summary, wrong_programs};
 use std::io::Write;
+use std::path::PathBuf;
 use std::process::ExitCode;
 
 /// The exit status where nothing was run.
@@ -19,15 +20,33 @@ fn stand_in_for(engine: &dyn Engine, program: &str, options: &Options) -> Result
     Ok(ExitCode::from(manner.status))
 }
 
+/// With --proved, neither engine nor programs may be the tests' own.
+fn all_is_proved(library: Option<&str>, programs: Option<&PathBuf>) -> Result<(), String> {
+    match (library, programs) {
+        (None, _) => {
+            Err("--proved, but the engine is the reference engine: LANES_LIBRARY=FOLDER links the proved one".to_string())
+        }
+        (_, None) => Err("--proved, but no folder of programs is given: --programs FOLDER".to_string()),
+        _ => Ok(()),
+    }
+}
+
 fn run() -> Result<ExitCode, String> {
     let options = options::read()?;
-    let reference: Box<dyn Engine> = Box::new(Parts::right());
-    let (engine, name) = linked().map_or((reference, "reference"), |engine| (engine, "library"));
+    let (engine, library) = match linked() {
+        Some((engine, library)) => (engine, Some(library)),
+        None => (Box::new(Parts::right()) as Box<dyn Engine>, None),
+    };
     if let Some(program) = &options.stand_in {
         return stand_in_for(engine.as_ref(), program, &options);
     }
+    if options.proved {
+        all_is_proved(library, options.programs.as_ref())?;
+    }
     let seeds: Vec<String> = options.seeds.iter().map(u64::to_string).collect();
-    println!("seed {}, about {} random files each, engine: {name}", seeds.join(" and "), options.files);
+    println!("seed {}, about {} random files each", seeds.join(" and "), options.files);
+    let programs = options.programs.as_ref().map_or("this binary".to_string(), |folder| folder.display().to_string());
+    println!("engine: {}; programs: {programs}", library.unwrap_or("reference"));
     Ok(summary::try_all(&options, engine.as_ref()))
 }
 

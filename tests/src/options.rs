@@ -7,13 +7,14 @@ use crate::random::Random;
 use std::path::PathBuf;
 use std::time::{SystemTime, UNIX_EPOCH};
 
-pub const USAGE: &str = "outside-tests [--seed N] [--files N] [--long] [--only TEXT] [--programs FOLDER] [--valgrind]
+pub const USAGE: &str = "outside-tests [--seed N] [--files N] [--long] [--only TEXT] [--programs FOLDER] [--valgrind] [--proved]
   --seed N            this seed alone; without it seed 1 and, for all that is drawn at random, a fresh one besides, which is printed
   --files N           about that many random files with each seed
   --long              twenty times as many
   --only TEXT         only what has TEXT in its name; a failure where nothing has
   --programs FOLDER   the programs lanes_graph, lanes_plan, lanes_sheet and lanes_check of a folder; without it this binary stands in
   --valgrind          the programs under valgrind, on document 01's examples alone
+  --proved            a failure at once where the engine is not the linked library, or where no folder of programs is given
 outside-tests --as NAME [--wrongly WHAT]
   stands in for a program, or for one of which something is wrong, as the lines 'wrong program' have it";
 
@@ -24,6 +25,7 @@ pub struct Options {
     pub only: String,
     pub programs: Option<PathBuf>,
     pub valgrind: bool,
+    pub proved: bool,
     pub stand_in: Option<String>,
     pub wrongly: Option<String>,
 }
@@ -42,6 +44,7 @@ pub fn read() -> Result<Options, String> {
         only: String::new(),
         programs: None,
         valgrind: false,
+        proved: false,
         stand_in: None,
         wrongly: None,
     };
@@ -56,6 +59,7 @@ pub fn read() -> Result<Options, String> {
             "--only" => options.only = value()?,
             "--programs" => options.programs = Some(PathBuf::from(value()?)),
             "--valgrind" => options.valgrind = true,
+            "--proved" => options.proved = true,
             "--as" => options.stand_in = Some(value()?),
             "--wrongly" => options.wrongly = Some(value()?),
             _ => return Err(format!("what is {word}?\n{USAGE}")),
