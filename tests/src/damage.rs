@@ -88,23 +88,28 @@ pub fn random_bytes(judge: &mut Judge, files: usize) -> Trial {
     })
 }
 
-fn some_frames(random: &mut Random, form: &Form) -> Vec<u8> {
+/// Of a barrier, about as many lines as there are nodes, most of them in node order.
+fn some_frames(random: &mut Random, form: &Form, nodes: usize) -> Vec<u8> {
     let numbers = random.below(4);
     let after_kind = ["", "03", "0302"][form.header_digits / 2];
-    let mut kinds: Vec<u8> = (0..random.below(5)).map(|_| *random.choose(form.bodies)).collect();
+    let is_barrier = form.header == BARRIER.header;
+    let lines = if is_barrier { nodes - 1 + random.below(3) } else { random.below(5) };
+    let mut kinds: Vec<u8> = (0..lines).map(|_| *random.choose(form.bodies)).collect();
     kinds.sort_unstable();
     let mut body: Vec<String> = Vec::new();
-    for kind in kinds {
-        body.push(format!("{kind:02X}{:02X}{:02X}", random.below(numbers + 1), random.below(4 + numbers)));
+    for (line, kind) in kinds.into_iter().enumerate() {
+        let first = if is_barrier && random.chance(98) { line } else { random.below(numbers + 1) };
+        body.push(format!("{kind:02X}{first:02X}{:02X}", random.below(4 + numbers)));
     }
     file(&format!("{:02X}{after_kind}", form.header), &body, form.end)
 }
 
 pub fn random_frames(judge: &mut Judge, files: usize) -> Trial {
-    let graph = graph_for_certificates().file();
+    let beside = graph_for_certificates();
+    let graph = beside.file();
     (0..files).try_for_each(|number| {
         let form = [&GRAPH, &STOCK, &STOCK, &PATH, &BARRIER][number % 5];
-        let bytes = some_frames(&mut judge.random, form);
+        let bytes = some_frames(&mut judge.random, form, beside.nodes());
         judge.all_calls(&graph, &bytes)
     })
 }
