@@ -23,7 +23,7 @@ pub fn all_graphs(judge: &mut Judge) -> Trial {
 /// The graph with that many more pairs of arcs, in every way.
 fn try_graphs(judge: &mut Judge, graph: &mut Graph, more: usize) -> Trial {
     if more == 0 {
-        return judge.graph(&graph.file());
+        return judge.made_graph(graph);
     }
     let nodes = graph.nodes();
     (0..nodes * nodes).try_for_each(|number| {
@@ -43,7 +43,7 @@ pub fn all_stocks(judge: &mut Judge) -> Trial {
             let mut pairings = Vec::new();
             each_pairing(cameras, &fits, &mut |pairs| pairings.push(pairs.to_vec()));
             for lit in pairings {
-                judge.stock(&Stock { cameras, fits: fits.clone(), lit }.file())?;
+                judge.made_stock(&Stock { cameras, fits: fits.clone(), lit })?;
             }
         }
     }

@@ -2,6 +2,7 @@
 //!   Judge                 an engine, a source of numbers, and counts of what was tried
 //!   graph, stock          a file handed to the calls for its kind, and judged by what document 01 says of it
 //!   graph_answer          the same, and the answer, empty for a refusal
+//!   made_graph, made_stock    the same of a graph or stock that was made to be accepted
 //!   short_buffers         the same with a buffer that is too small
 //!   all_calls             any bytes handed to every call
 //!   check, certificate    two files handed to the check; the second counted as a file tried
@@ -10,8 +11,9 @@
 //!   Trial                 done, or what went wrong and on which file
 
 use crate::engine::{Engine, Tally, Told, Verdict};
-use crate::graph_trial;
+use crate::graph_trial::{self, Graph};
 use crate::random::Random;
+use crate::stock_trial::{self, Stock};
 use crate::truth::{graph_owed, graph_truth, opening, plan_owed, sheet_owed, stock_truth, Count, Owed};
 use std::collections::BTreeMap;
 use std::fmt;
@@ -97,6 +99,18 @@ impl<'a> Judge<'a> {
     pub fn stock(&mut self, file: &[u8]) -> Trial {
         self.seen.files += 1;
         self.as_stock(file)
+    }
+
+    /// A graph that was made to be accepted: what is read from its file is the graph itself.
+    pub fn made_graph(&mut self, graph: &Graph) -> Trial {
+        read_back(graph_trial::read(&graph.file()), graph, &graph.file())?;
+        self.graph(&graph.file())
+    }
+
+    /// A stock likewise.
+    pub fn made_stock(&mut self, stock: &Stock) -> Trial {
+        read_back(stock_trial::read(&stock.file()), stock, &stock.file())?;
+        self.stock(&stock.file())
     }
 
     pub fn certificate(&mut self, graph: &[u8], certificate: &[u8]) -> Trial {
@@ -241,6 +255,14 @@ impl<'a> Judge<'a> {
             _ => self.random.number() as u32,
         };
         Tally { paths: count(), barriers: count(), stocks: count(), refusals: count() }
+    }
+}
+
+fn read_back<T: PartialEq>(read: Result<T, u8>, made: &T, file: &[u8]) -> Trial {
+    match read {
+        Ok(found) if found == *made => Ok(()),
+        Ok(_) => Err(format!("the trial reads another graph or stock than was written\n{}", shown(file))),
+        Err(refusal) => Err(format!("refusal {refusal} of a graph or stock that was made to be accepted\n{}", shown(file))),
     }
 }
 

@@ -36,7 +36,7 @@ pub fn known_answer(judge: &mut Judge, graph: &Graph, known: &Known) -> Result<V
 pub fn try_graph(judge: &mut Judge, graph: &Graph, known: &Known) -> Trial {
     known_answer(judge, graph, known)?;
     let other = shuffled_graph(&mut judge.random, graph);
-    judge.graph(&other.file())
+    judge.made_graph(&other)
 }
 
 /// An arc between two of 127 parts makes a path; if only one of them has an entry, they are one part.
@@ -81,7 +81,7 @@ pub fn sparse_graphs(judge: &mut Judge, files: usize) -> Trial {
     (0..files).try_for_each(|_| {
         let arc_pairs = judge.random.between(60, 260);
         let graph = random_graph(&mut judge.random, 128, arc_pairs);
-        judge.graph(&graph.file())
+        judge.made_graph(&graph)
     })
 }
 
@@ -105,9 +105,9 @@ pub fn try_stock(judge: &mut Judge, stock: &Stock, known: Option<Standing>) -> T
     if known.is_some_and(|known| known != blossom::standing(stock.cameras, &stock.fits)) {
         return Err(format!("the trial gives another standing than is known\n{}", shown(&stock.file())));
     }
-    judge.stock(&stock.file())?;
+    judge.made_stock(stock)?;
     let other = shuffled_stock(&mut judge.random, stock);
-    judge.stock(&other.file())
+    judge.made_stock(&other)
 }
 
 pub fn dense_stocks(judge: &mut Judge) -> Trial {

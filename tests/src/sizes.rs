@@ -12,7 +12,7 @@ pub fn graphs(judge: &mut Judge) -> Trial {
         let answer = known_answer(judge, &graph, &known)?;
         judge.certificate(&graph.file(), &spoiled(&graph, &answer)?)?;
         let other = shuffled_graph(&mut judge.random, &graph);
-        judge.graph(&other.file())
+        judge.made_graph(&other)
     })
 }
 

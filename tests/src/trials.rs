@@ -18,14 +18,14 @@ use crate::reference::answer;
 pub fn small_graphs(judge: &mut Judge, files: usize) -> Trial {
     (0..files).try_for_each(|_| {
         let graph = small_graph(&mut judge.random);
-        judge.graph(&graph.file())
+        judge.made_graph(&graph)
     })
 }
 
 pub fn middling_graphs(judge: &mut Judge, files: usize) -> Trial {
     (0..files).try_for_each(|_| {
         let graph = middling_graph(&mut judge.random);
-        judge.graph(&graph.file())
+        judge.made_graph(&graph)
     })
 }
 
@@ -35,21 +35,21 @@ pub fn doubled_tables(judge: &mut Judge, files: usize) -> Trial {
         let random = &mut judge.random;
         let stock = if number % 4 == 0 { middling_stock(random) } else { small_stock(random) };
         let graph = shuffled_graph(random, &doubled_table(&stock));
-        judge.graph(&graph.file())
+        judge.made_graph(&graph)
     })
 }
 
 pub fn small_stocks(judge: &mut Judge, files: usize) -> Trial {
     (0..files).try_for_each(|_| {
         let stock = small_stock(&mut judge.random);
-        judge.stock(&stock.file())
+        judge.made_stock(&stock)
     })
 }
 
 pub fn middling_stocks(judge: &mut Judge, files: usize) -> Trial {
     (0..files).try_for_each(|_| {
         let stock = middling_stock(&mut judge.random);
-        judge.stock(&stock.file())
+        judge.made_stock(&stock)
     })
 }
 
