@@ -3,7 +3,7 @@
 //!   of_trial    the trial against itself; no engine is called
 //!   of_engine   what an engine must pass; those that cost least come first
 //!   of_programs what the programs must pass
-//!   run         one group, with a seed of its own; a panic is a failure
+//!   run         one group, with a seed of its own; a panic is a failure, and so is a group that tries nothing
 //!   run_programs    the same for the programs
 
 use crate::engine::Engine;
@@ -138,10 +138,13 @@ fn without_panic(tried: impl FnOnce() -> Trial) -> Trial {
 /// What was seen, and how it went.
 pub fn run(group: &EngineGroup, engine: &dyn Engine, seed: u64, files: usize) -> (Seen, Trial) {
     let mut judge = Judge::new(engine, own_seed(group.name, seed));
-    let outcome = without_panic(|| match group.tried {
+    let mut outcome = without_panic(|| match group.tried {
         Tried::Whole(tried) => tried(&mut judge),
         Tried::Share(of_a_thousand, tried) => tried(&mut judge, (files * of_a_thousand).div_ceil(1_000)),
     });
+    if judge.seen.calls + judge.seen.compared == 0 {
+        outcome = outcome.and(Err("nothing was tried".to_string()));
+    }
     (judge.seen, outcome)
 }
 

@@ -96,8 +96,11 @@ impl Summary<'_> {
             for seed in group.seeds(seeds) {
                 let before = programs.runs();
                 let outcome = run_programs(group, &programs, *seed);
-                let note = format!(" ({} runs)", programs.runs() - before);
-                self.tell(&format!("{}, seed {seed}", group.name), outcome.map(|_| note));
+                let outcome = outcome.and_then(|_| match programs.runs() - before {
+                    0 => Err("nothing was run".to_string()),
+                    runs => Ok(format!(" ({runs} runs)")),
+                });
+                self.tell(&format!("{}, seed {seed}", group.name), outcome);
             }
         }
         if self.options.only.is_empty() && !self.options.valgrind {
@@ -132,7 +135,7 @@ impl Summary<'_> {
 /// A right engine or right programs, and which groups they pass, as far as that was asked.
 struct Right<F: Fn(usize) -> Trial> {
     tried: F,
-    passes: Vec<Option<bool>>,
+    passes: Vec<Option<Trial>>,
 }
 
 impl<F: Fn(usize) -> Trial> Right<F> {
@@ -140,20 +143,22 @@ impl<F: Fn(usize) -> Trial> Right<F> {
         Right { tried, passes: vec![None; groups] }
     }
 
-    /// The first group that a wrong one fails and the right one passes, by its place. A panic, or what could not be run, is no such failure.
+    /// The first group that a wrong one fails, by its place; the right one must pass it. A panic, or what could not be run, is no such failure.
     fn caught(&mut self, wrong: impl Fn(usize) -> Trial) -> Result<usize, String> {
         for place in 0..self.passes.len() {
             match wrong(place) {
+                Ok(()) => (),
                 Err(fault) if fault.starts_with(NOT_RUN) || fault == PANIC => return Err(fault),
-                Err(_) if self.passes(place) => return Ok(place),
-                _ => (),
+                Err(_) => {
+                    return self.passes(place).map(|_| place).map_err(|fault| format!("the right one fails this too\n{fault}"))
+                }
             }
         }
         Err("was not caught".to_string())
     }
 
-    fn passes(&mut self, place: usize) -> bool {
-        *self.passes[place].get_or_insert_with(|| (self.tried)(place).is_ok())
+    fn passes(&mut self, place: usize) -> Trial {
+        self.passes[place].get_or_insert_with(|| (self.tried)(place)).clone()
     }
 }
 
