@@ -1,22 +1,17 @@
 -- The arc table that a caller lends: the arcs' tails and heads as lists of bytes, and the graph of it.
---   arcsOf                  the arcs, in order
 --   graphOf                 the graph of the table
 --   Covers ts hs n          each end of each arc is below n
 --   ArcTable n s ts hs      what the questions put to a graph settle: a well-formed graph within the limits of document 01
 use mathlib.Core.Path.{_≡_}
-use mathlib.Core.List.{List, [], _∷_}
+use mathlib.Core.List.{List}
 use Prim.Native.Nat.{ℕ, _≤_, _<_}
-use lib.ListN.{length, getD, drop}
-use Rattle.counting.specs.Pairs.{Pair, pair}
+use lib.ListN.{length, getD}
+use Rattle.counting.specs.Pairs.{zipPairs}
 use Rattle.skew.specs.Graph.{Graph}
 use Rattle.skew.specs.Paths.{WellFormed}
 
-unfoldable pub arcsOf : (tails heads : List ℕ) → List Pair
-arcsOf [] hs = []
-arcsOf (t ∷ ts) hs = pair t (getD hs 0 0) ∷ arcsOf ts (drop 1 hs)
-
 abbrev pub graphOf : (pairs source : ℕ) (tails heads : List ℕ) → Graph
-graphOf n s ts hs = record { pairs = n; source = s; arcs = arcsOf ts hs }
+graphOf n s ts hs = record { pairs = n; source = s; arcs = zipPairs ts hs }
 
 pub record Covers (ts hs : List ℕ) (n : ℕ) : Type 0 where
   pub same : length hs ≡ length ts

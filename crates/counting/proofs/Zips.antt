@@ -1,6 +1,7 @@
--- Two lists of one length, pair by pair; and the first and second numbers of pairs.
+-- Two lists, mostly of one length, pair by pair; and the first and second numbers of pairs.
 --   zip-length      as many pairs
---   zip-at          the pair at a place: what both lists have there
+--   zip-low         never more than the first list has
+--   zip-within, zip-at    the pair at a place: what both lists have there
 --   zip-snoc        one element more at the end of both
 --   zip-seconds     the second numbers of what was zipped
 --   firsts-length, seconds-length    as many numbers as pairs
@@ -21,12 +22,21 @@ zip-length [] ys e = refl
 zip-length (x ∷ xs) [] e = absurd (omega arith)
 zip-length (x ∷ xs) (y ∷ ys) e = ap suc (zip-length xs ys (omega arith))
 
-pub zip-at : (xs ys : List ℕ) (i : ℕ) → length ys ≡ length xs → i < length xs → getD (zipPairs xs ys) i noPair ≡ pair (getD xs i 0) (getD ys i 0)
+pub zip-low : (xs ys : List ℕ) → length (zipPairs xs ys) ≤ length xs
 unfolding zipPairs
-zip-at [] ys i e h = absurd (omega arith)
-zip-at (x ∷ xs) [] i e h = absurd (omega arith)
-zip-at (x ∷ xs) (y ∷ ys) zero e h = refl
-zip-at (x ∷ xs) (y ∷ ys) (suc i) e h = zip-at xs ys i (omega arith) (omega arith)
+zip-low [] ys = omega arith
+zip-low (x ∷ xs) [] = omega arith
+zip-low (x ∷ xs) (y ∷ ys) = let r = zip-low xs ys in omega arith
+
+pub zip-within : (xs ys : List ℕ) (i : ℕ) → i < length (zipPairs xs ys) → getD (zipPairs xs ys) i noPair ≡ pair (getD xs i 0) (getD ys i 0)
+unfolding zipPairs
+zip-within [] ys i h = absurd (omega arith)
+zip-within (x ∷ xs) [] i h = absurd (omega arith)
+zip-within (x ∷ xs) (y ∷ ys) zero h = refl
+zip-within (x ∷ xs) (y ∷ ys) (suc i) h = zip-within xs ys i (omega arith)
+
+pub zip-at : (xs ys : List ℕ) (i : ℕ) → length ys ≡ length xs → i < length xs → getD (zipPairs xs ys) i noPair ≡ pair (getD xs i 0) (getD ys i 0)
+zip-at xs ys i e h = zip-within xs ys i (omega (arith, zip-length xs ys e))
 
 pub zip-snoc : (xs ys : List ℕ) (a b : ℕ) → length ys ≡ length xs → zipPairs (xs ++ a ∷ []) (ys ++ b ∷ []) ≡ zipPairs xs ys ++ pair a b ∷ []
 unfolding zipPairs

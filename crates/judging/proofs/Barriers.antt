@@ -18,15 +18,14 @@ use lib.ListN.{length, getD, drop, set, length-set, drop-of-length-le, replicate
 use lib.Seq.{drop-cons, drop-length, getD-set-same, getD-set-other}
 use borrow.Author.Tests.{eqb-true, eqb-false, eq-eqb, ne-eqb, ltb-true, ltb-false, le-leb, lt-ltb, le-ltb}
 use Rattle.counting.specs.Tests.{pick, all, below}
-use Rattle.counting.specs.Pairs.{Pair, noPair}
+use Rattle.counting.specs.Pairs.{Pair, noPair, zipPairs}
 use Rattle.counting.proofs.Booleans.{by-test, same-or}
 use Rattle.counting.proofs.Range.{length-up, in-up}
+use Rattle.counting.proofs.Zips.{zip-length, zip-at}
 use Rattle.skew.specs.Graph.{classAt, isXM, largestOf, arcFits, entriesInto}
-use Rattle.arcs.specs.Table.{arcsOf}
 use Rattle.skew.specs.Barrier.{classesFit}
 use Rattle.judging.specs.Barriers.{enteredOnce, allEntered, Counting}
 use Rattle.judging.proofs.Judging.{all-same, Judged, judged-next, judged-fails, judged-end, range-next, range-fails, range-end}
-use Rattle.arcs.proofs.Tables.{arcs-length, arcs-at}
 
 -- ARCS THAT FIT
 -- a class that is neither A nor A' is M or an Xi
@@ -49,18 +48,18 @@ module _ (a : ℕ) (h : a ≢ 1) (k : a ≢ 2) where
       rw (other-xm a h k, ne-eqb a 1 h, ne-eqb a b n)
       (by-test (eqb b 2) (λ t. rw (eqb-true b 2 t)) (λ t. rw (t, other-xm b l (eqb-false b 2 t))))
 
-module _ (cs ts hs : List ℕ) (i : ℕ) (J : Judged (arcFits cs) (arcsOf ts hs) i) where
-  arc-at : i < length ts → arcFits cs (getD (arcsOf ts hs) i noPair) ≡ classesFit (classAt cs (getD ts i 0)) (classAt cs (getD hs i 0))
-  arc-at l = ap (arcFits cs) (arcs-at ts hs i l)
+module _ (cs ts hs : List ℕ) (same : length hs ≡ length ts) (i : ℕ) (J : Judged (arcFits cs) (zipPairs ts hs) i) where
+  arc-at : i < length ts → arcFits cs (getD (zipPairs ts hs) i noPair) ≡ classesFit (classAt cs (getD ts i 0)) (classAt cs (getD hs i 0))
+  arc-at l = ap (arcFits cs) (zip-at ts hs i same l)
 
-  pub arcs-next : i < length ts → classesFit (classAt cs (getD ts i 0)) (classAt cs (getD hs i 0)) ≡ true → Judged (arcFits cs) (arcsOf ts hs) (i + 1)
-  arcs-next l t = judged-next (arcFits cs) (arcsOf ts hs) noPair i J (omega (arith, arcs-length ts hs)) (arc-at l ∙ t)
+  pub arcs-next : i < length ts → classesFit (classAt cs (getD ts i 0)) (classAt cs (getD hs i 0)) ≡ true → Judged (arcFits cs) (zipPairs ts hs) (i + 1)
+  arcs-next l t = judged-next (arcFits cs) (zipPairs ts hs) noPair i J (omega (arith, zip-length ts hs same)) (arc-at l ∙ t)
 
-  pub arcs-fail : i < length ts → classesFit (classAt cs (getD ts i 0)) (classAt cs (getD hs i 0)) ≡ false → false ≡ all (arcFits cs) (arcsOf ts hs)
-  arcs-fail l t = judged-fails (arcFits cs) (arcsOf ts hs) noPair i J (omega (arith, arcs-length ts hs)) (arc-at l ∙ t)
+  pub arcs-fail : i < length ts → classesFit (classAt cs (getD ts i 0)) (classAt cs (getD hs i 0)) ≡ false → false ≡ all (arcFits cs) (zipPairs ts hs)
+  arcs-fail l t = judged-fails (arcFits cs) (zipPairs ts hs) noPair i J (omega (arith, zip-length ts hs same)) (arc-at l ∙ t)
 
-  pub arcs-end : length ts ≤ i → true ≡ all (arcFits cs) (arcsOf ts hs)
-  arcs-end l = judged-end (arcFits cs) (arcsOf ts hs) noPair i J (omega (arith, arcs-length ts hs))
+  pub arcs-end : length ts ≤ i → true ≡ all (arcFits cs) (zipPairs ts hs)
+  arcs-end l = judged-end (arcFits cs) (zipPairs ts hs) noPair i J (omega (arith, zip-length ts hs same))
 
 -- THE LARGEST CLASS
 pub largest-none : (cs : List ℕ) → largestOf (drop (length cs) cs) ≡ 0
@@ -89,9 +88,9 @@ entries-le cs c (x ∷ xs) =
     let ih = entries-le cs c xs in
     by-test (eqb (classAt cs (x .first)) 1 && eqb (classAt cs (x .second)) c) (λ t. rw t (omega arith)) (λ t. rw t (omega arith))
 
-module _ (cs ts hs : List ℕ) where
+module _ (cs ts hs : List ℕ) (same : length hs ≡ length ts) where
   abbrev xs : List Pair
-  xs = arcsOf ts hs
+  xs = zipPairs ts hs
 
   pub counting-start : Counting cs xs (replicate 256 0) 0
   counting-start = record { long = length-replicate {A = ℕ} 256 0; counts = λ c h. omega (arith, getD-replicate {A = ℕ} 256 c 0 0 h) }
@@ -99,16 +98,16 @@ module _ (cs ts hs : List ℕ) where
   pub counting-end : (es : List ℕ) (i : ℕ) → length ts ≤ i → Counting cs xs es i → (c : ℕ) → c < 256 → getD es c 0 ≡ entriesInto cs c xs
   unfolding entriesInto
   counting-end es i l C c h =
-      let q : entriesInto cs c (drop i xs) ≡ 0 = rw (drop-of-length-le xs {i = i} (omega (arith, arcs-length ts hs))) in omega (arith, C .counts c h)
+      let q : entriesInto cs c (drop i xs) ≡ 0 = rw (drop-of-length-le xs {i = i} (omega (arith, zip-length ts hs same))) in omega (arith, C .counts c h)
 
   module _ (es : List ℕ) (i : ℕ) (C : Counting cs xs es i) (l : i < length ts) where
     pub counting-small : (c : ℕ) → c < 256 → getD es c 0 ≤ length ts
-    counting-small c h = omega (arith, C .counts c h, entries-le cs c xs, arcs-length ts hs)
+    counting-small c h = omega (arith, C .counts c h, entries-le cs c xs, zip-length ts hs same)
 
     entries-step : (c : ℕ) → entriesInto cs c (drop i xs) ≡
         pick (eqb (classAt cs (getD ts i 0)) 1 && eqb (classAt cs (getD hs i 0)) c) 1 0 + entriesInto cs c (drop (i + 1) xs)
     unfolding entriesInto
-    entries-step c = rw (drop-cons xs i noPair (omega (arith, arcs-length ts hs)), arcs-at ts hs i l, add-one i)
+    entries-step c = rw (drop-cons xs i noPair (omega (arith, zip-length ts hs same)), zip-at ts hs i same l, add-one i)
 
     pub counting-enters : (h : ℕ) → h < 256 → classAt cs (getD ts i 0) ≡ 1 → classAt cs (getD hs i 0) ≡ h → Counting cs xs (set es h (getD es h 0 + 1)) (i + 1)
     counting-enters h m t e =

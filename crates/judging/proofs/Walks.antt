@@ -23,7 +23,7 @@ use Rattle.skew.specs.Paths.{tail, head}
 use Rattle.skew.proofs.Reachable.{Tried, tried-regular, regular-tried}
 use Rattle.arcs.specs.Table.{graphOf}
 use Rattle.judging.specs.Walks.{wantedFrom, Marks, Walking}
-use Rattle.arcs.proofs.Tables.{tail-is, head-is, arc-in}
+use Rattle.arcs.proofs.Tables.{tail-is, head-is}
 
 -- ARC BY ARC
 module _ (g : Graph) where
@@ -104,7 +104,7 @@ module _ (n s : ℕ) (ts hs path : List ℕ) (k v : ℕ) (t u : List ℕ) (W : W
     walking-there e = rw (walking-end, eq-eqb v m e)
 
   -- the next arc i goes from x to y, and m is its mate
-  module _ (l : k < length path) (i x : ℕ) (ei : getD path k 0 ≡ i) (low : i < length ts) (ex : x ≡ getD ts i 0) where
+  module _ (l : k < length path) (i x : ℕ) (ei : getD path k 0 ≡ i) (low : i < length (g .arcs)) (ex : x ≡ getD ts i 0) where
     walking-step : (y m : ℕ) → y ≡ getD hs i 0 → m ≡ mate i → isWanted g path ≡
         (eqb x v && not (eqb (getD t y 0) 1) && not (eqb (getD u m 0) 1) && wantedFrom g y (y ∷ W .seen) (i ∷ W .used) (drop (suc k) path))
     unfolding wantedFrom
@@ -113,7 +113,7 @@ module _ (n s : ℕ) (ts hs path : List ℕ) (k v : ℕ) (t u : List ℕ) (W : W
         rw (
           drop-cons path k 0 l,
           ei,
-          lt-ltb i (length (g .arcs)) (arc-in n s ts hs i low),
+          lt-ltb i (length (g .arcs)) low,
           tail-is n s ts hs i low,
           head-is n s ts hs i low,
           ← ex,

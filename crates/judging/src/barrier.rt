@@ -7,8 +7,9 @@ ghost use mathlib.Core.Path.{_≡_};
 ghost use Prim.Native.Nat.{ℕ, _*_, _%_, _≤_, _<_};
 ghost use lib.ListN.{length, getD};
 ghost use Rattle.counting.specs.Tests.{all, below};
+ghost use Rattle.counting.specs.Pairs.{zipPairs};
 ghost use Rattle.skew.specs.Graph.{mateClass, matesAgree, largestOf, arcFits, entriesInto, isBarrier};
-ghost use Rattle.arcs.specs.Table.{arcsOf, graphOf, ArcTable, Covers};
+ghost use Rattle.arcs.specs.Table.{graphOf, ArcTable, Covers};
 ghost use Rattle.skew.specs.Barrier.{classesFit};
 ghost use Rattle.judging.specs.Barriers.{allEntered};
 use arcs::node::mate_of;
@@ -67,7 +68,7 @@ fn classes_fit(a: u8, b: u8) -> bool
 
 fn arcs_fit(tails: &[u8], heads: &[u8], classes: &[u8]) -> bool
     requires { ⌜ Covers (now tails) (now heads) (length (now classes)) ⌝ }
-    ensures { λ r. ⌜ r ≡ all (arcFits (now (classes .entry))) (arcsOf (now (tails .entry)) (now (heads .entry))) ⌝ }
+    ensures { λ r. ⌜ r ≡ all (arcFits (now (classes .entry))) (zipPairs (now (tails .entry)) (now (heads .entry))) ⌝ }
 {
     let mut i: usize = 0;
     // invariant: proofs/Judging Judged arcFits; falls: arcs left
@@ -86,7 +87,7 @@ fn arcs_fit(tails: &[u8], heads: &[u8], classes: &[u8]) -> bool
 fn count_entries(tails: &[u8], heads: &[u8], classes: &[u8]) -> [u16; 256]
     requires { ⌜ Covers (now tails) (now heads) (length (now classes)) ⌝ }
     requires { ⌜ length (now tails) ≤ 8192 ⌝ }
-    ensures { λ r. ⌜ ((c : ℕ) → c < 256 → getD r c 0 ≡ entriesInto (now (classes .entry)) c (arcsOf (now (tails .entry)) (now (heads .entry)))) ⌝ }
+    ensures { λ r. ⌜ ((c : ℕ) → c < 256 → getD r c 0 ≡ entriesInto (now (classes .entry)) c (zipPairs (now (tails .entry)) (now (heads .entry)))) ⌝ }
 {
     let mut entries = [0u16; 256];
     let mut i: usize = 0;

@@ -36,7 +36,7 @@ use Rattle.search.specs.ClassTable.{Barred}
 use Rattle.search.specs.Answer.{PathWritten, ReachedOnly, PathSought, Searched, Answered}
 use Rattle.search.specs.declared.answer.Answer.{Answer}
 use Rattle.search.specs.declared.answer.Answer.the-variants.{Path, NoPath}
-use Rattle.arcs.proofs.Tables.{tail-is, head-is, arcs-length}
+use Rattle.arcs.proofs.Tables.{arc-in, tail-is, head-is}
 use Rattle.search.proofs.ClassTables.{no-path, table-reached}
 
 pub wanted-short : (g : Graph) → WellFormed g → (p : List ℕ) → isWanted g p ≡ true → length p < nodes g
@@ -69,16 +69,19 @@ module _ (n s : ℕ) (ts hs bs vs ss ms : List ℕ) (r : Bool) (E : Ended n s ts
         table = E .search .table;
         births-long = E .search .state .births-long;
         vias-long = E .search .state .vias-long;
-        tail-earlier = λ v l h. rw (tail-is n s ts hs (getD vs v 0) h) at (earlier v l h .tail-earlier);
+        tail-earlier = λ v l h. rw (tail-is n s ts hs (getD vs v 0) (arc v h)) at (earlier v l h .tail-earlier);
         head-earlier = λ v l h.
-            rw (head-is n s ts hs (getD vs v 0) h) at
+            rw (head-is n s ts hs (getD vs v 0) (arc v h)) at
             (⊎-elim {C = (head g (getD vs v 0) ≡ v) ⊎ (getD bs (mate (head g (getD vs v 0))) 0 < getD bs v 0)} (λ q. inl q) (λ q. inr (q .1))
             (earlier v l h .head-mate));
       }
     where
+      arc : (v : ℕ) → getD vs v 0 < length ts → getD vs v 0 < length (g .arcs)
+      arc v h = arc-in n s ts hs (E .search .table) (getD vs v 0) h
+
       earlier : (v : ℕ) → ltb 0 (getD bs v 0) ≡ true → getD vs v 0 < length ts → Earlier g st v
       earlier v l h =
-          let I = E .search .state .invariant in I .via-earlier v l (λ q. omega (arith, I .source-via, ap (st .via) q, arcs-length ts hs))
+          let I = E .search .state .invariant in I .via-earlier v l (λ q. omega (arith, I .source-via, ap (st .via) q, arc v h))
 
   module _ (found : r ≡ true) (m : ℕ) (em : m ≡ mate s) where
     wanted : (p : List ℕ) × Route g bs vs s (mate s) p × (isWanted g p ≡ true)

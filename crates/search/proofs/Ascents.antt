@@ -180,7 +180,7 @@ module _ (n s : ℕ) (ts hs bs vs ss : List ℕ) (k : ℕ) (S : SearchHeld n s t
         let B = rw (c .at-z) at (ascent-arc g sym-g st I (absorbedIn ms) (viasOf vs′) e v₀ z₀ (c .v) (c .z) (c .bridge) (c .ascent) nb lb) in
         let ve : getD vs″ q 0 ≡ getD vs q 0 = via-reached q base-q q (base-q .is-base .reached) ∙ ends .via-old q (base-q .is-base .reached) in
         let al : getD vs q 0 < length ts = in-arcs n s ts hs (getD vs q 0) (B .is-arc) in
-        let te : tail g (getD vs q 0) ≡ getD ts (getD vs q 0) 0 = tail-is n s ts hs (getD vs q 0) al in
+        let te : tail g (getD vs q 0) ≡ getD ts (getD vs q 0) 0 = tail-is n s ts hs (getD vs q 0) (B .is-arc) in
         let x = getD ts (getD vs q 0) 0 in
         let xl : x < 2 * n = tail-node n s ts hs (S .table) (getD vs q 0) al in
         let be : st .base x ≡ getD ss (x / 2) 0 = base-at g bs vs ss k (S .state) x xl in
@@ -315,8 +315,8 @@ module _ (n s : ℕ) (ts hs bs vs₀ ss : List ℕ) (k i j v z : ℕ) where
   ascending-start ms y S A C e f h m =
       let l = in-arcs n s ts hs i (A .is-arc) in
       ascending S vs₀ ms (getD ss (v / 2) 0) (getD ss (z / 2) 0) e
-      (between-start n s ts hs bs vs₀ ss k S i v z ms A C (tail-is n s ts hs i l ∙ sym f)
-      (ap (λ (x : ℕ). mate x) (head-is n s ts hs i l ∙ sym h) ∙ sym m))
+      (between-start n s ts hs bs vs₀ ss k S i v z ms A C (tail-is n s ts hs i (A .is-arc) ∙ sym f)
+      (ap (λ (x : ℕ). mate x) (head-is n s ts hs i (A .is-arc) ∙ sym h) ∙ sym m))
 
   module _ (vs ms : List ℕ) (p q : ℕ) (A : Ascending n s ts hs bs vs₀ ss k i j v z vs ms p q) where
     abbrev S : SearchHeld n s ts hs bs vs₀ ss k

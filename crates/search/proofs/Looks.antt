@@ -46,10 +46,10 @@ module _ (n s : ℕ) (ts hs bs vs ss : List ℕ) (k i : ℕ) (S : SearchHeld n s
     B = arc-bounds n s ts hs bs vs ss k i S (A .is-arc)
 
     tail-x : tail g i ≡ x
-    tail-x = tail-is n s ts hs i (B .in-tails) ∙ sym ex
+    tail-x = tail-is n s ts hs i (A .is-arc) ∙ sym ex
 
     head-y : head g i ≡ y
-    head-y = head-is n s ts hs i (B .in-tails) ∙ sym ey
+    head-y = head-is n s ts hs i (A .is-arc) ∙ sym ey
 
     base-x : st .base (tail g i) ≡ getD ss (x / 2) 0
     base-x = ap (st .base) tail-x ∙ base-at g bs vs ss k (S .state) x (rw ex (B .tail-node))
@@ -150,7 +150,7 @@ module _ (n s : ℕ) (ts hs bs vs ss : List ℕ) (k i : ℕ) (S : SearchHeld n s
         }
 
     head-is-y : head g i ≡ y
-    head-is-y = head-is n s ts hs i (L .in-tails) ∙ sym ey
+    head-is-y = head-is n s ts hs i (A .is-arc) ∙ sym ey
 
     mate-is-m : mate (head g i) ≡ m
     mate-is-m = ap (λ (z : ℕ). mate z) head-is-y ∙ sym em

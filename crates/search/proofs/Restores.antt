@@ -81,8 +81,8 @@ module _ (n s : ℕ) (ts hs bs vs : List ℕ) where
       let P = parts-of stop v (R .path) ne (R .route) in
       let e = getD vs v 0 in
       let l : e < length ts = in-arcs n s ts hs e (P .is-arc) in
-      let f = tail-is n s ts hs e l in
-      let i = head-is n s ts hs e l in
+      let f = tail-is n s ts hs e (P .is-arc) in
+      let i = head-is n s ts hs e (P .is-arc) in
       let vl : v < 2 * n =
       by-test (ltb v (length bs)) (λ t. omega (arith, T .births-long, ltb-true v (length bs) t))
       (λ t. true-false (P .reached) (not-reached (getD bs v 0) (List·getD-eq-default bs 0 (ltb-false v (length bs) t)))) in

@@ -18,7 +18,7 @@ use Rattle.skew.proofs.Mates.{mate-below}
 use Rattle.skew.proofs.Forest.{bud-base, bud-arc, tail-both, root-up, root-stop}
 use Rattle.arcs.specs.Table.{graphOf}
 use Rattle.search.specs.ClassTable.{Barred, endState, InBud, RootFound}
-use Rattle.arcs.proofs.Tables.{tail-is, in-arcs, tail-node}
+use Rattle.arcs.proofs.Tables.{in-arcs, arc-in, tail-is, tail-node}
 use Rattle.search.proofs.States.{is-reached, not-reached, base-at, reached-is-node}
 
 module _ (n s : ℕ) (ts hs bs vs ss : List ℕ) where
@@ -69,7 +69,7 @@ module _ (n s : ℕ) (ts hs bs vs ss : List ℕ) where
 
   module _ (v b x m : ℕ) (P : RootAscent v b) (ex : x ≡ getD ts (getD vs b 0) 0) (em : m ≡ mate x) where
     tail-x : tail g (getD vs b 0) ≡ x
-    tail-x = tail-is n s ts hs (getD vs b 0) (P .is-arc) ∙ sym ex
+    tail-x = tail-is n s ts hs (getD vs b 0) (arc-in n s ts hs (P .barred .search .table) (getD vs b 0) (P .is-arc)) ∙ sym ex
 
     x-low : x < 2 * n
     x-low = rw ex (P .tail-low)

@@ -22,6 +22,7 @@ use Rattle.counting.specs.Tests.{among}
 use Rattle.counting.specs.Lists.{In}
 use Rattle.counting.specs.Sums.{sum}
 use Rattle.counting.proofs.Booleans.{by-test, true-false, same-or}
+use Rattle.counting.proofs.Zips.{zip-length}
 use Rattle.counting.proofs.Membership.{getD-default, among-in, in-among, in-append}
 use Rattle.skew.specs.Graph.{Graph, mate}
 use Rattle.skew.specs.Search.{State, Started}
@@ -35,7 +36,7 @@ use Rattle.arcs.specs.Table.{graphOf, ArcTable}
 use Rattle.search.specs.State.{stateOf, Clear}
 use Rattle.search.specs.Steps.{Mapped}
 use Rattle.search.specs.Queue.{Leaving, Looked, NextArc, takenOf, Searching, Scanned, doubled, Ended}
-use Rattle.arcs.proofs.Tables.{tail-is, arc-in, arcs-length}
+use Rattle.arcs.proofs.Tables.{tail-is, arc-in}
 use Rattle.search.proofs.States.{is-reached, not-reached}
 use Rattle.search.proofs.Queues.{enqueued-none, enqueued-add, kept-short}
 
@@ -79,7 +80,8 @@ module _ (n s : ℕ) (ts hs : List ℕ) where
       node-reached = rw (S .here) at (S .queued .sound (getD q t 0) (front-in q t m (S .taken) (S .queued .fits)))
 
       pub leaves-node : a < length ts → getD ts a 0 ≡ x → Leaving g st a
-      leaves-node h e = record { is-arc = arc-in n s ts hs a h; tail-reached = rw (tail-is n s ts hs a h ∙ e) node-reached }
+      leaves-node h e =
+          let l = arc-in n s ts hs (S .search .table) a h in record { is-arc = l; tail-reached = rw (tail-is n s ts hs a l ∙ e) node-reached }
 
       pub scan-looks : (bs′ vs′ ss′ ms′ q′ : List ℕ) (k′ m′ : ℕ) → Looked g a st q m bs′ vs′ ss′ ms′ q′ k′ m′ →
           Scanned n s ts hs bs′ vs′ ss′ ms′ q′ k′ m′ t x (a + 1)
@@ -115,12 +117,12 @@ module _ (n s : ℕ) (ts hs : List ℕ) where
             here = S .here;
             scanning =
                 scan-past g (S .search .table .well-formed) st (takenOf q t) x a r
-                (λ j l h e. N .others j l h (sym (tail-is n s ts hs j (omega (arith, N .within))) ∙ e)) (S .scanning);
+                (λ j l h e. N .others j l h (sym (tail-is n s ts hs j (arc-in n s ts hs (S .search .table) j (omega (arith, N .within)))) ∙ e)) (S .scanning);
           }
 
       pub scan-ends : length ts ≤ a → a ≤ length ts → Searching n s ts hs bs vs ss ms q k m (t + 1)
       scan-ends h l =
-          let e : a ≡ length (g .arcs) = omega (arith, arcs-length ts hs) in
+          let e : a ≡ length (g .arcs) = omega (arith, zip-length ts hs (S .search .table .as-long)) in
           let f = in-front q t (omega (arith, S .queued .fits, S .taken)) in
           record {
             search = S .search;
@@ -210,7 +212,7 @@ module _ (n s : ℕ) (ts hs : List ℕ) where
           reached-only = reached-only;
           base-source = λ u. ⊎-elim (λ (q : u ≡ s). rw q (own s refl)) (λ (q : u ≡ mate s). rw q (own (mate s) (mate-half s)));
           base-other = λ u o. getD-set-other ss₀ (s / 2) (u / 2) s (u - u % 2) (λ q. ⊎-elim (o .0) (o .1) (half-pair u s q)) ∙ lower u;
-          via-source = getD-set-same vs s (length ts) 0 (omega (arith, lv, source-node)) ∙ sym (arcs-length ts hs);
+          via-source = getD-set-same vs s (length ts) 0 (omega (arith, lv, source-node)) ∙ sym (zip-length ts hs (T .as-long));
           before-clock = rw birth-s (omega arith);
         }
       where

@@ -20,7 +20,7 @@ use Rattle.skew.proofs.Measure.{tree-step-less}
 use Rattle.arcs.specs.Table.{graphOf}
 use Rattle.search.specs.State.{stateOf, StateHeld, SearchHeld}
 use Rattle.search.specs.Steps.{NewHead, TreeStepped}
-use Rattle.arcs.proofs.Tables.{head-is, in-arcs}
+use Rattle.arcs.proofs.Tables.{head-is}
 
 module _ (n s : ℕ) (ts hs bs vs ss : List ℕ) (k i : ℕ) (S : SearchHeld n s ts hs bs vs ss k) (N : NewHead (graphOf n s ts hs) (stateOf bs vs ss k) i) where
   abbrev g : Graph
@@ -81,5 +81,5 @@ module _ (n s : ℕ) (ts hs bs vs ss : List ℕ) (k i : ℕ) (S : SearchHeld n s
 
   pub tree-stepped : (y : ℕ) → y ≡ getD hs i 0 → TreeStepped g i st (set bs y k) (set vs y i) (set ss (y / 2) y) (k + 1)
   tree-stepped y e =
-      subst (λ (z : ℕ). TreeStepped g i st (set bs z k) (set vs z i) (set ss (z / 2) z) (k + 1)) (head-is n s ts hs i (in-arcs n s ts hs i (N .is-arc)) ∙ sym e)
+      subst (λ (z : ℕ). TreeStepped g i st (set bs z k) (set vs z i) (set ss (z / 2) z) (k + 1)) (head-is n s ts hs i (N .is-arc) ∙ sym e)
       (record { state = state; step = step })

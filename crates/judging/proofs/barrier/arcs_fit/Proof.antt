@@ -5,7 +5,7 @@ use native.Mathlib.Omega.{arith}
 use lib.ListN.{length}
 use borrow.Author.Tests.{not-true, not-false}
 use Rattle.skew.specs.Graph.{arcFits}
-use Rattle.arcs.specs.Table.{arcsOf}
+use Rattle.counting.specs.Pairs.{zipPairs}
 use Rattle.judging.proofs.Judging.{Judged}
 use Rattle.judging.proofs.Barriers.{arcs-next, arcs-fail, arcs-end}
 use Rattle.judging.proofs.barrier.arcs_fit.Statement.{statement}
@@ -13,7 +13,7 @@ use Rattle.judging.proofs.barrier.arcs_fit.Tie as tie
 use borrow.Author.Needs.{needs}
 
 abbrev Inv-loop : tie.InvT-loop
-Inv-loop tails heads classes i₀ i = (i ≤ length tails) × Judged (arcFits classes) (arcsOf tails heads) i
+Inv-loop tails heads classes i₀ i = (i ≤ length tails) × Judged (arcFits classes) (zipPairs tails heads) i
 
 abbrev μ-loop : tie.MeasureT-loop
 μ-loop tails heads classes i₀ i = length tails - i
@@ -57,12 +57,13 @@ classes-fit-requires c κs = search needs
 returns : tie.Need-returns Inv-loop μ-loop
 returns c =
     let args = c .before .before .before .before .before .before .before .before .before .before .before .before .before .args in
+    let same = c .before .before .before .before .before .before .before .before .before .before .before .before .before .pre .same in
     let loop = c .before .before .before .before .before .before .before .before .before .loop in
     let loop-test = c .before .before .before .before .before .before .before .before .loop-test in
     let wide = c .before .before .before .before .before .before .wide in
     let wide2 = c .before .before .before .before .wide2 in
     let classes-fit = c .before .classes-fit in
-    arcs-fail (args .classes .now) (args .tails .now) (args .heads .now) _ (loop .inv .1) (loop-test .taken) (rw (← wide .ensures .0, ← wide2 .ensures .0, ← classes-fit .ensures) (not-true _ (c .if1 .taken)))
+    arcs-fail (args .classes .now) (args .tails .now) (args .heads .now) same _ (loop .inv .1) (loop-test .taken) (rw (← wide .ensures .0, ← wide2 .ensures .0, ← classes-fit .ensures) (not-true _ (c .if1 .taken)))
 
 add-i : tie.Need-add-i Inv-loop μ-loop
 add-i c = search needs
@@ -73,18 +74,20 @@ loop-less c = search needs
 loop-again : tie.Need-loop-again Inv-loop μ-loop
 loop-again c =
     let args = c .before .before .before .before .before .before .before .before .before .before .before .before .before .args in
+    let same = c .before .before .before .before .before .before .before .before .before .before .before .before .before .pre .same in
     let loop = c .before .before .before .before .before .before .before .before .before .loop in
     let loop-test = c .before .before .before .before .before .before .before .before .loop-test in
     let wide = c .before .before .before .before .before .before .wide in
     let wide2 = c .before .before .before .before .wide2 in
     let classes-fit = c .before .classes-fit in
-    (omega arith, arcs-next (args .classes .now) (args .tails .now) (args .heads .now) _ (loop .inv .1) (loop-test .taken) (rw (← wide .ensures .0, ← wide2 .ensures .0, ← classes-fit .ensures) (not-false _ (c .if1 .left))))
+    (omega arith, arcs-next (args .classes .now) (args .tails .now) (args .heads .now) same _ (loop .inv .1) (loop-test .taken) (rw (← wide .ensures .0, ← wide2 .ensures .0, ← classes-fit .ensures) (not-false _ (c .if1 .left))))
 
 returns-2 : tie.Need-returns-2 Inv-loop μ-loop
 returns-2 c =
     let args = c .before .before .before .before .before .args in
+    let same = c .before .before .before .before .before .pre .same in
     let loop = c .before .loop in
-    arcs-end (args .classes .now) (args .tails .now) (args .heads .now) _ (loop .inv .1) (c .loop-test .left)
+    arcs-end (args .classes .now) (args .tails .now) (args .heads .now) same _ (loop .inv .1) (c .loop-test .left)
 
 pub arcs-fit-spec : {M : Type 1} → statement M
 arcs-fit-spec =

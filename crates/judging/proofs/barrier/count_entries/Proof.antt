@@ -4,7 +4,7 @@ use mathlib.Core.Logic.{⊎-elim}
 use Prim.Native.Nat.{_≤_, _-_}
 use native.Mathlib.Omega.{arith}
 use lib.ListN.{length}
-use Rattle.arcs.specs.Table.{arcsOf}
+use Rattle.counting.specs.Pairs.{zipPairs}
 use Rattle.judging.specs.Barriers.{Counting}
 use Rattle.judging.proofs.Barriers.{counting-start, counting-enters, counting-passes, counting-end, counting-small}
 use Rattle.judging.proofs.barrier.count_entries.Statement.{statement}
@@ -12,7 +12,7 @@ use Rattle.judging.proofs.barrier.count_entries.Tie as tie
 use borrow.Author.Needs.{needs}
 
 abbrev Inv-loop : tie.InvT-loop
-Inv-loop tails heads classes entries₀ i₀ entries i = (i ≤ length tails) × Counting classes (arcsOf tails heads) entries i
+Inv-loop tails heads classes entries₀ i₀ entries i = (i ≤ length tails) × Counting classes (zipPairs tails heads) entries i
 
 abbrev μ-loop : tie.MeasureT-loop
 μ-loop tails heads classes entries₀ i₀ entries i = length tails - i
@@ -20,7 +20,8 @@ abbrev μ-loop : tie.MeasureT-loop
 loop-holds : tie.Need-loop-holds Inv-loop μ-loop
 loop-holds c =
     let args = c .before .before .before .args in
-    (omega arith, counting-start (args .classes .now) (args .tails .now) (args .heads .now))
+    let same = c .before .before .before .pre .0 .same in
+    (omega arith, counting-start (args .classes .now) (args .tails .now) (args .heads .now) same)
 
 shared-slice-read-wide : tie.Need-shared-slice-read-wide Inv-loop μ-loop
 shared-slice-read-wide c = search needs
@@ -67,7 +68,7 @@ add-entries c =
     let loop = c .before .before .before .before .before .before .before .before .before .loop in
     let loop-test = c .before .before .before .before .before .before .before .before .loop-test in
     let pre = c .before .before .before .before .before .before .before .before .before .before .before .before .before .pre in
-    omega (arith, counting-small (args .classes .now) (args .tails .now) (args .heads .now) _ _ (loop .inv .1) (loop-test .taken) (c .wide3 .result) (c .wide3 .ensures .1), pre .1)
+    omega (arith, counting-small (args .classes .now) (args .tails .now) (args .heads .now) (pre .0 .same) _ _ (loop .inv .1) (loop-test .taken) (c .wide3 .result) (c .wide3 .ensures .1), pre .1)
 
 array-write-entries : tie.Need-array-write-entries Inv-loop μ-loop
 array-write-entries c = search needs
@@ -81,22 +82,24 @@ loop-less c = search needs
 loop-again : tie.Need-loop-again Inv-loop μ-loop
 loop-again c =
     let args = c .before .before .before .before .before .before .before .before .before .before .before .args in
+    let same = c .before .before .before .before .before .before .before .before .before .before .before .pre .0 .same in
     let loop = c .before .before .before .before .before .before .before .loop in
     let loop-test = c .before .before .before .before .before .before .loop-test in
     let wide = c .before .before .before .before .wide in
     let wide2 = c .before .before .wide2 in (
       omega arith,
       ⊎-elim
-          (λ w. rw (w .3) (counting-enters (args .classes .now) (args .tails .now) (args .heads .now) _ _ (loop .inv .1) (loop-test .taken) (w .2 .result) (w .2 .ensures .1) (rw (← wide .ensures .0) (w .0 .taken)) (rw (← wide2 .ensures .0) (sym (w .2 .ensures .0)))))
-          (λ w. rw (w .1) (counting-passes (args .classes .now) (args .tails .now) (args .heads .now) _ _ (loop .inv .1) (loop-test .taken) (rw (← wide .ensures .0) (w .0 .left))))
+          (λ w. rw (w .3) (counting-enters (args .classes .now) (args .tails .now) (args .heads .now) same _ _ (loop .inv .1) (loop-test .taken) (w .2 .result) (w .2 .ensures .1) (rw (← wide .ensures .0) (w .0 .taken)) (rw (← wide2 .ensures .0) (sym (w .2 .ensures .0)))))
+          (λ w. rw (w .1) (counting-passes (args .classes .now) (args .tails .now) (args .heads .now) same _ _ (loop .inv .1) (loop-test .taken) (rw (← wide .ensures .0) (w .0 .left))))
           (c .if1 .came),
     )
 
 returns : tie.Need-returns Inv-loop μ-loop
 returns c =
     let args = c .before .before .before .before .before .args in
+    let same = c .before .before .before .before .before .pre .0 .same in
     let loop = c .before .loop in
-    counting-end (args .classes .now) (args .tails .now) (args .heads .now) _ _ (c .loop-test .left) (loop .inv .1)
+    counting-end (args .classes .now) (args .tails .now) (args .heads .now) same _ _ (c .loop-test .left) (loop .inv .1)
 
 pub count-entries-spec : {M : Type 1} → statement M
 count-entries-spec =

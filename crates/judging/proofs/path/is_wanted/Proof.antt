@@ -5,6 +5,7 @@ use native.Mathlib.Omega.{arith}
 use lib.ListN.{length, getD}
 use Rattle.skew.proofs.Mates.{mate-below}
 use Rattle.arcs.specs.Table.{graphOf}
+use Rattle.arcs.proofs.Tables.{arc-in}
 use Rattle.judging.specs.Walks.{Walking}
 use Rattle.judging.proofs.Walks.{walking-start, walking-apart, walking-seen, walking-used, walking-next, walking-elsewhere, walking-there}
 use Rattle.judging.proofs.path.is_wanted.Statement.{statement}
@@ -55,7 +56,7 @@ returns c =
     let loop-test = c .before .before .before .before .loop-test in
     let wide = c .before .wide in
     let pre = c .before .before .before .before .before .before .before .before .before .pre in
-    walking-apart _ _ _ _ _ _ _ _ _ (loop .inv) (loop-test .taken) _ (wide .result) refl (pre .1 (loop .k) (loop-test .taken)) (wide .ensures .0) (c .if1 .taken)
+    walking-apart _ _ _ _ _ _ _ _ _ (loop .inv) (loop-test .taken) _ (wide .result) refl (arc-in _ _ _ _ (pre .0) _ (pre .1 (loop .k) (loop-test .taken))) (wide .ensures .0) (c .if1 .taken)
 
 shared-slice-read-wide-2 : tie.Need-shared-slice-read-wide-2 Inv-loop μ-loop
 shared-slice-read-wide-2 c =
@@ -78,7 +79,7 @@ returns-2 c =
     let pre = c .before .before .before .before .before .before .before .before .before .before .before .before .pre in
     let if1 = c .before .before .before .if1 in
     let wide2 = c .before .wide2 in
-    walking-seen _ _ _ _ _ _ _ _ _ (loop .inv) (loop-test .taken) _ (wide .result) refl (pre .1 (loop .k) (loop-test .taken)) (wide .ensures .0) (if1 .left) (wide2 .result) (wide2 .ensures .0) (c .if2 .taken)
+    walking-seen _ _ _ _ _ _ _ _ _ (loop .inv) (loop-test .taken) _ (wide .result) refl (arc-in _ _ _ _ (pre .0) _ (pre .1 (loop .k) (loop-test .taken))) (wide .ensures .0) (if1 .left) (wide2 .result) (wide2 .ensures .0) (c .if2 .taken)
 
 mate-of-requires : tie.Need-mate-of-requires Inv-loop μ-loop
 mate-of-requires c κs =
@@ -105,7 +106,7 @@ returns-3 c =
     let wide2 = c .before .before .before .wide2 in
     let if2 = c .before .before .if2 in
     let mate-of = c .before .mate-of in
-    walking-used _ _ _ _ _ _ _ _ _ (loop .inv) (loop-test .taken) _ (wide .result) refl (pre .1 (loop .k) (loop-test .taken)) (wide .ensures .0) (if1 .left) (wide2 .result) (wide2 .ensures .0) (if2 .left) (mate-of .result) (mate-of .ensures) (c .if3 .taken)
+    walking-used _ _ _ _ _ _ _ _ _ (loop .inv) (loop-test .taken) _ (wide .result) refl (arc-in _ _ _ _ (pre .0) _ (pre .1 (loop .k) (loop-test .taken))) (wide .ensures .0) (if1 .left) (wide2 .result) (wide2 .ensures .0) (if2 .left) (mate-of .result) (mate-of .ensures) (c .if3 .taken)
 
 array-write-seen-2 : tie.Need-array-write-seen-2 Inv-loop μ-loop
 array-write-seen-2 c = search needs
@@ -133,7 +134,7 @@ loop-again c =
     let wide2 = c .before .before .before .wide2 in
     let if2 = c .before .before .if2 in
     let mate-of = c .before .mate-of in
-    walking-next _ _ _ _ _ _ _ _ _ (loop .inv) (loop-test .taken) _ (wide .result) refl (pre .1 (loop .k) (loop-test .taken)) (wide .ensures .0) (if1 .left) (wide2 .result) (wide2 .ensures .0) (if2 .left) (mate-of .result) (mate-of .ensures) (c .if3 .left) (wide2 .ensures .1) (omega (arith, pre .0 .arcs-few, pre .1 (loop .k) (loop-test .taken)))
+    walking-next _ _ _ _ _ _ _ _ _ (loop .inv) (loop-test .taken) _ (wide .result) refl (arc-in _ _ _ _ (pre .0) _ (pre .1 (loop .k) (loop-test .taken))) (wide .ensures .0) (if1 .left) (wide2 .result) (wide2 .ensures .0) (if2 .left) (mate-of .result) (mate-of .ensures) (c .if3 .left) (wide2 .ensures .1) (omega (arith, pre .0 .arcs-few, pre .1 (loop .k) (loop-test .taken)))
 
 mate-of-requires-2 : tie.Need-mate-of-requires-2 Inv-loop μ-loop
 mate-of-requires-2 c κs =
