@@ -1,10 +1,10 @@
 -- The ascent from the two ends of an arc to the base that absorbs the others, on the tables.
+--   Between ..                the two ends of an arc on their way up: bases p and q, what is absorbed below them
 --   Ascending ..              the loop's state: two ends with bases p and q, the absorbed bases marked, their mates labelled
 --   ascending-start           before the first absorption
 --   absorbs-q, absorbs-p      the base of either end can be absorbed
 --   absorbed-q, absorbed-p    it was: that end has an earlier base
 --   ascended                  both ends at one base
---   arc-bounds                an arc's number and ends, and the tables' lengths
 use mathlib.Core.Path.{_≡_, refl, sym, ap, subst, _∙_}
 use mathlib.Core.Logic.{_⊎_, inl, inr, _≢_, ⊎-elim}
 use mathlib.Core.Bool.{true, false}
@@ -26,37 +26,8 @@ use Rattle.skew.proofs.Ascent.{ascent-at, ascent-absorb, ascent-arc, ascent-sam
 use Rattle.arcs.specs.Table.{graphOf}
 use Rattle.search.specs.State.{stateOf, SearchHeld, Clear, absorbedIn, viasOf}
 use Rattle.search.specs.Steps.{Bridging, labelled, Absorbs, Absorbed, Ascended}
-use Rattle.arcs.proofs.Tables.{tail-is, head-is, in-arcs, tail-node, head-node}
+use Rattle.arcs.proofs.Tables.{tail-is, head-is, in-arcs, tail-node}
 use Rattle.search.proofs.States.{base-at, reached-is-node, unreached-is, not-reached}
-
--- AN ARC'S BOUNDS
-pub record ArcBounds (n i : ℕ) (ts hs bs vs ss : List ℕ) : Type 0 where
-  pub in-tails : i < length ts
-  pub in-heads : i < length hs
-  pub small : i < 8192
-  pub tail-node : getD ts i 0 < 2 * n
-  pub head-node : getD hs i 0 < 2 * n
-  pub pairs-few : n ≤ 128
-  pub births-long : length bs ≡ 2 * n
-  pub vias-long : length vs ≡ 2 * n
-  pub bases-long : length ss ≡ n
-
-pub arc-bounds : (n s : ℕ) (ts hs bs vs ss : List ℕ) (k i : ℕ) → SearchHeld n s ts hs bs vs ss k → i < length (graphOf n s ts hs .arcs) →
-    ArcBounds n i ts hs bs vs ss
-arc-bounds n s ts hs bs vs ss k i S h =
-    let T = S .table in
-    let l = in-arcs n s ts hs i h in
-    record {
-      in-tails = l;
-      in-heads = omega (arith, T .as-long);
-      small = omega (arith, T .arcs-few);
-      tail-node = tail-node n s ts hs T i l;
-      head-node = head-node n s ts hs T i l;
-      pairs-few = T .pairs-few;
-      births-long = S .state .births-long;
-      vias-long = S .state .vias-long;
-      bases-long = S .state .bases-long;
-    }
 
 -- THE ASCENT
 module _ (n s : ℕ) (ts hs bs vs ss : List ℕ) (k : ℕ) (S : SearchHeld n s ts hs bs vs ss k) where
@@ -313,7 +284,6 @@ module _ (n s : ℕ) (ts hs bs vs₀ ss : List ℕ) (k i j v z : ℕ) where
       Clear (graphOf n s ts hs) ms → j ≡ mate i → v ≡ getD ts i 0 → y ≡ getD hs i 0 → z ≡ mate y →
       Ascending n s ts hs bs vs₀ ss k i j v z vs₀ ms (getD ss (v / 2) 0) (getD ss (z / 2) 0)
   ascending-start ms y S A C e f h m =
-      let l = in-arcs n s ts hs i (A .is-arc) in
       ascending S vs₀ ms (getD ss (v / 2) 0) (getD ss (z / 2) 0) e
       (between-start n s ts hs bs vs₀ ss k S i v z ms A C (tail-is n s ts hs i (A .is-arc) ∙ sym f)
       (ap (λ (x : ℕ). mate x) (head-is n s ts hs i (A .is-arc) ∙ sym h) ∙ sym m))

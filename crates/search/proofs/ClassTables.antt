@@ -1,6 +1,6 @@
 -- The class table, node by node.
 --   no-path, table-reached          the end of a search without a path: none exists, and the reached nodes are the reachable ones
---   class-reads, root-in            where `class_at` reads and writes
+--   ClassReads, class-reads, root-in    where `class_at` reads and writes
 --   class-M, class-A, class-A′      a node outside X
 --   in-bud, class-old, class-new    a node of X, of a part that has a number, or of a new one
 --   classing-start, classing-end    before the first node, after the last

@@ -1,8 +1,9 @@
 -- A look at one arc of a reached node: whether it is settled, and what the tables hold after the step that it asks for.
---   settled-reads                       where `is_settled` reads
+--   SettledReads, settled-reads         where `is_settled` reads
 --   inside-bud, enters-bud, leaves-bud  three ways to be settled
 --   loop-unsettled, link-unsettled      two ways not to be
---   look-reads                          where `look` reads
+--   LookReads, look-reads               where `look` reads
+--   new-head, new-room, reached-arc, bridging, bud-queue    what the steps ask
 --   looked-new, looked-old              the head is new and was reached, or was reached already
 --   looked-settled, looked-bud          the arc is settled, or was settled by a bud
 use mathlib.Core.Path.{_≡_, refl, sym, ap, _∙_}
@@ -26,8 +27,7 @@ use Rattle.search.specs.State.{stateOf, SearchHeld, Clear}
 use Rattle.search.specs.Steps.{NewHead, TreeStepped, Bridging, Later, BudStepped}
 use Rattle.search.specs.Queue.{Queued, queuedBelow, Enqueued, Leaving, ReachedArc, Decided, Looked}
 use Rattle.arcs.proofs.Tables.{tail-is, head-is}
-use Rattle.search.proofs.States.{is-reached, not-reached, base-at, reached-is-node}
-use Rattle.search.proofs.Ascents.{ArcBounds, arc-bounds}
+use Rattle.search.proofs.States.{is-reached, not-reached, base-at, reached-is-node, ArcBounds, arc-bounds}
 use Rattle.search.proofs.Queues.{queued-same, enqueued-same, enqueued-none, enqueued-add, queue-room}
 
 module _ (n s : ℕ) (ts hs bs vs ss : List ℕ) (k i : ℕ) (S : SearchHeld n s ts hs bs vs ss k) where

@@ -1,5 +1,6 @@
 -- Restoration follows the path that the labels give: what its places ask, and what it has written.
---   Split, split              a path's last label: the path to its arc's tail, the arc, and the path within the bud
+--   route-stop, Parts, parts-of    a path by its last label
+--   Split, split              the same in the slices' terms: the path to its arc's tail, the arc, and the path within the bud
 --   split-first, -second      the two inner calls
 --   restored-stop             nothing is written at the start of the path
 --   wrote-first, -second      what the inner calls have written

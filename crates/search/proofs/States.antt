@@ -3,10 +3,11 @@
 --   reached-is, unreached-is                the same, the other way round
 --   base-at, reached-is-node                a node's base; reached nodes are nodes
 --   cleared                                 a table filled with zeros is clear
+--   ArcBounds, arc-bounds                   an arc's number and ends, and the tables' lengths
 use mathlib.Core.Path.{_≡_, refl, _∙_}
 use mathlib.Core.Bool.{true, false}
 use mathlib.Core.List.{List}
-use Prim.Native.Nat.{ℕ, zero, suc, _-_, _/_, _%_, _<_}
+use Prim.Native.Nat.{ℕ, zero, suc, _*_, _-_, _/_, _%_, _≤_, _<_}
 use native.Mathlib.Omega.{arith}
 use lib.Dec.{ltb}
 use lib.ListN.{length, getD, List·getD-eq-default}
@@ -15,7 +16,9 @@ use Rattle.counting.proofs.Booleans.{by-test, true-false}
 use Rattle.counting.proofs.Membership.{getD-default}
 use Rattle.skew.specs.Graph.{Graph, nodes}
 use Rattle.skew.specs.Search.{State}
-use Rattle.search.specs.State.{stateOf, StateHeld, Clear}
+use Rattle.arcs.specs.Table.{graphOf}
+use Rattle.arcs.proofs.Tables.{in-arcs, tail-node, head-node}
+use Rattle.search.specs.State.{stateOf, StateHeld, SearchHeld, Clear}
 use Rattle.search.specs.Steps.{Mapped, zeroed}
 
 pub is-reached : (b : ℕ) → (b ≡ 0 → ⊥) → ltb 0 b ≡ true
@@ -50,4 +53,33 @@ cleared g ms ms′ l M =
       zeros = λ u.
           by-test (ltb u (length ms)) (λ t. M .done u (ltb-true u (length ms) t))
           (λ t. let h = ltb-false u (length ms) t in M .rest u h ∙ List·getD-eq-default ms 0 h);
+    }
+
+-- AN ARC'S BOUNDS
+pub record ArcBounds (n i : ℕ) (ts hs bs vs ss : List ℕ) : Type 0 where
+  pub in-tails : i < length ts
+  pub in-heads : i < length hs
+  pub small : i < 8192
+  pub tail-node : getD ts i 0 < 2 * n
+  pub head-node : getD hs i 0 < 2 * n
+  pub pairs-few : n ≤ 128
+  pub births-long : length bs ≡ 2 * n
+  pub vias-long : length vs ≡ 2 * n
+  pub bases-long : length ss ≡ n
+
+pub arc-bounds : (n s : ℕ) (ts hs bs vs ss : List ℕ) (k i : ℕ) → SearchHeld n s ts hs bs vs ss k → i < length (graphOf n s ts hs .arcs) →
+    ArcBounds n i ts hs bs vs ss
+arc-bounds n s ts hs bs vs ss k i S h =
+    let T = S .table in
+    let l = in-arcs n s ts hs i h in
+    record {
+      in-tails = l;
+      in-heads = omega (arith, T .as-long);
+      small = omega (arith, T .arcs-few);
+      tail-node = tail-node n s ts hs T i l;
+      head-node = head-node n s ts hs T i l;
+      pairs-few = T .pairs-few;
+      births-long = S .state .births-long;
+      vias-long = S .state .vias-long;
+      bases-long = S .state .bases-long;
     }

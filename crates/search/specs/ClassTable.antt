@@ -1,5 +1,6 @@
 -- The canonical barrier's classes, written node by node (document 01, "The barrier").
 --   Barred ..               the end of a search that did not reach the source's mate
+--   endState B              the state at that end
 --   InBud .. v              v lies in a bud: it and its mate are reached
 --   RootFound .. v r        r is the base at the root of v's tree of buds
 --   firstsBefore g v        how many nodes below v are the first of their part
@@ -24,7 +25,6 @@ pub record Barred (n s : ℕ) (ts hs bs vs ss : List ℕ) : Type 0 where
   pub closed : Closed (graphOf n s ts hs) (stateOf bs vs ss clock)
   pub shut : stateOf bs vs ss clock .reached (mate s) ≡ false
 
--- the state at that end
 abbrev pub endState : {n s : ℕ} {ts hs bs vs ss : List ℕ} → Barred n s ts hs bs vs ss → State
 endState {bs = bs} {vs = vs} {ss = ss} B = stateOf bs vs ss (B .clock)
 

@@ -1,6 +1,7 @@
 -- The steps of a search on its tables: what each function is given and what it leaves.
 --   Mapped f was now i            the elements below i are as f says, the others as they were
 --   birthAfter, baseAfter         a node's birth number and base after a bud step, by the mark of its base
+--   birthsAfter, basesAfter, zeroed    what a table is mapped by: births and bases after a bud step, zeros
 --   labelled bs vs v e            the labels, with e for v where v is not reached
 --   NewHead g st i                arc i leads from a reached node to one that is new, as is its mate
 --   TreeStepped g i st ..         the tables after the tree step

@@ -1,6 +1,6 @@
 -- The three ways to be settled, and the two not to be.
 use native.Mathlib.Omega.{arith}
-use Rattle.search.proofs.Ascents.{arc-bounds}
+use Rattle.search.proofs.States.{arc-bounds}
 use Rattle.search.proofs.Looks.{settled-reads, inside-bud, enters-bud, leaves-bud, loop-unsettled, link-unsettled}
 use borrow.Author.Needs.{needs}
 use Rattle.search.proofs.search.is_settled.Statement.{statement}

@@ -1,6 +1,6 @@
 -- The step that the arc asks for, case by case.
 use native.Mathlib.Omega.{arith}
-use Rattle.search.proofs.Ascents.{arc-bounds}
+use Rattle.search.proofs.States.{arc-bounds}
 use Rattle.search.proofs.Looks.{look-reads, looked-old, new-head, new-room, looked-new, reached-arc, looked-settled, bridging, bud-queue, looked-bud}
 use borrow.Author.Needs.{needs}
 use Rattle.search.proofs.search.look.Statement.{statement}

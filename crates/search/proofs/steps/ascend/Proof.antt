@@ -3,7 +3,8 @@ use Prim.Native.Nat.{_+_}
 use native.Mathlib.Omega.{arith}
 use lib.ListN.{getD}
 use Rattle.skew.proofs.Mates.{mate-is, mate-half}
-use Rattle.search.proofs.Ascents.{arc-bounds, Ascending, ascending-start, absorbs-q, absorbs-p, absorbed-q, absorbed-p, ascended, mate-p-node}
+use Rattle.search.proofs.States.{arc-bounds}
+use Rattle.search.proofs.Ascents.{Ascending, ascending-start, absorbs-q, absorbs-p, absorbed-q, absorbed-p, ascended, mate-p-node}
 use Rattle.search.proofs.steps.ascend.Statement.{statement}
 use Rattle.search.proofs.steps.ascend.Tie as tie
 use borrow.Author.Needs.{needs}

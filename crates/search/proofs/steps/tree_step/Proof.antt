@@ -1,7 +1,7 @@
 -- Three stores are the tree step.
 use native.Mathlib.Omega.{arith}
 use Rattle.search.proofs.TreeSteps.{tree-stepped}
-use Rattle.search.proofs.Ascents.{arc-bounds}
+use Rattle.search.proofs.States.{arc-bounds}
 use borrow.Author.Needs.{needs}
 use Rattle.search.proofs.steps.tree_step.Statement.{statement}
 use Rattle.search.proofs.steps.tree_step.Tie as tie
