@@ -3,7 +3,7 @@
 --   source-small             the source's mate can be told
 --   restorable, path-written      the source's mate is reached: the path is restored
 --   reached-only             every reached node is reachable
---   barred                   the source's mate is not reached
+--   exhausted                the source's mate is not reached
 --   sought-searched          what the search with its tables lent leaves is what a call owes that asks for no classes
 --   path-answered            and, where there is a path, one that asks for them
 --   sought-none              there is none: what the tables show
@@ -32,7 +32,7 @@ use Rattle.arcs.specs.Table.{graphOf}
 use Rattle.search.specs.State.{stateOf, Clear}
 use Rattle.search.specs.Queue.{Ended}
 use Rattle.search.specs.Restore.{Route, LabelTable, Restorable, Restored}
-use Rattle.search.specs.ClassTable.{Barred}
+use Rattle.search.specs.ClassTable.{Exhausted}
 use Rattle.search.specs.Answer.{PathWritten, ReachedOnly, PathSought, Searched, Answered}
 use Rattle.search.specs.declared.answer.Answer.{Answer}
 use Rattle.search.specs.declared.answer.Answer.the-variants.{Path, NoPath}
@@ -101,8 +101,8 @@ module _ (n s : ℕ) (ts hs bs vs ss ms : List ℕ) (r : Bool) (E : Ended n s ts
 
   -- NO PATH
   module _ (none : r ≡ false) where
-    pub barred : Barred n s ts hs bs vs ss
-    barred = let C = E .closed none in record { clock = E .clock; search = E .search; closed = C .0; shut = C .1 }
+    pub exhausted : Exhausted n s ts hs bs vs ss
+    exhausted = let C = E .closed none in record { clock = E .clock; search = E .search; closed = C .0; shut = C .1 }
 
 -- THE TWO CALLS
 module _ (n s : ℕ) (ts hs p p′ bs vs ss ms : List ℕ) where

@@ -26,14 +26,14 @@ use Rattle.skew.proofs.Exact.{reachable-is}
 use Rattle.skew.proofs.Canonical.{both-x-node, x-node-both, x-nodes-distinct, part-least-both, part-least-min, part-number-same}
 use Rattle.arcs.specs.Table.{graphOf}
 use Rattle.search.specs.State.{Clear}
-use Rattle.search.specs.ClassTable.{Barred, endState, InBud, RootFound, firstsBefore, Classing}
+use Rattle.search.specs.ClassTable.{Exhausted, endState, InBud, RootFound, firstsBefore, Classing}
 use Rattle.search.proofs.States.{is-reached, not-reached}
 
 module _ (n s : ℕ) (ts hs bs vs ss : List ℕ) where
   abbrev g : Graph
   g = graphOf n s ts hs
 
-  module _ (B : Barred n s ts hs bs vs ss) where
+  module _ (B : Exhausted n s ts hs bs vs ss) where
     xd : Distinct (xNodes g)
     xd = x-nodes-distinct g (B .search .table .well-formed) (endState B) (B .search .state .invariant) (B .closed) (B .shut)
 
@@ -81,8 +81,8 @@ module _ (n s : ℕ) (ts hs bs vs ss : List ℕ) where
 
   -- one node more
   module _ (v : ℕ) (nr cs : List ℕ) (next m : ℕ) (C : Classing n s ts hs bs vs ss v nr cs next) (h : v < 2 * n) (em : m ≡ mate v) where
-    abbrev B₀ : Barred n s ts hs bs vs ss
-    B₀ = C .barred
+    abbrev B₀ : Exhausted n s ts hs bs vs ss
+    B₀ = C .exhausted
 
     pub record ClassReads : Type 0 where
       pub v-birth : v < length bs
@@ -111,7 +111,7 @@ module _ (n s : ℕ) (ts hs bs vs ss : List ℕ) where
     aside : (c : ℕ) → c ≡ classOf g v → (BothReached (endState B₀) v → ⊥) → Classing n s ts hs bs vs ss (v + 1) nr (set cs v c) next
     aside c e out =
         record {
-          barred = B₀;
+          exhausted = B₀;
           numbers-long = C .numbers-long;
           classes-long = length-set cs v c ∙ C .classes-long;
           given = written c e;
@@ -160,7 +160,7 @@ module _ (n s : ℕ) (ts hs bs vs ss : List ℕ) where
       both = record { reached = lv; mate-reached = lm }
 
       pub in-bud : InBud n s ts hs bs vs ss v
-      in-bud = record { barred = B₀; is-node = h; reached = lv; mate-reached = lm }
+      in-bud = record { exhausted = B₀; is-node = h; reached = lv; mate-reached = lm }
 
       x-class : (c : ℕ) → c ≡ 3 + partNumber g v → c ≡ classOf g v
       x-class c e = class-is c (rw (lv, lm) (sym e))
@@ -180,7 +180,7 @@ module _ (n s : ℕ) (ts hs bs vs ss : List ℕ) where
             let p : partNumber g u ≡ partNumber g v = part-number-same g (B₀ .search .table .well-formed) (endState B₀) (B₀ .search .state .invariant) (B₀ .closed) (B₀ .shut) u v (r .2) both e in
             let c : getD nr t 0 ≡ 3 + partNumber g v = ap (λ (x : ℕ). getD nr x 0) (sym (r .3)) ∙ C .numbered u (r .1) (r .2) ∙ ap (λ (x : ℕ). 3 + x) p in
             record {
-              barred = B₀;
+              exhausted = B₀;
               numbers-long = C .numbers-long;
               classes-long = length-set cs v (getD nr t 0) ∙ C .classes-long;
               given = written (getD nr t 0) (x-class (getD nr t 0) c);
@@ -209,7 +209,7 @@ module _ (n s : ℕ) (ts hs bs vs ss : List ℕ) where
             let c : next ≡ 3 + partNumber g v = C .count ∙ ap (λ (x : ℕ). 3 + firstsBefore g x) (sym f) in
             let same : getD (set nr t next) t 0 ≡ next = getD-set-same nr t next 0 root-in in
             record {
-              barred = B₀;
+              exhausted = B₀;
               numbers-long = length-set nr t next ∙ C .numbers-long;
               classes-long = length-set cs v next ∙ C .classes-long;
               given = written next (x-class next c);
@@ -226,10 +226,10 @@ module _ (n s : ℕ) (ts hs bs vs ss : List ℕ) where
             }
 
   -- the start and the end
-  pub classing-start : (nr cs : List ℕ) → Barred n s ts hs bs vs ss → Clear g nr → length cs ≡ 2 * n → Classing n s ts hs bs vs ss 0 nr cs 3
+  pub classing-start : (nr cs : List ℕ) → Exhausted n s ts hs bs vs ss → Clear g nr → length cs ≡ 2 * n → Classing n s ts hs bs vs ss 0 nr cs 3
   classing-start nr cs B Z lc =
       record {
-        barred = B;
+        exhausted = B;
         numbers-long = Z .long;
         classes-long = lc;
         given = λ u l. absurd (omega arith);

@@ -17,7 +17,7 @@ use Rattle.skew.specs.Forest.{BudBase, root, rootOf}
 use Rattle.skew.proofs.Mates.{mate-below}
 use Rattle.skew.proofs.Forest.{bud-base, bud-arc, tail-both, root-up, root-stop}
 use Rattle.arcs.specs.Table.{graphOf}
-use Rattle.search.specs.ClassTable.{Barred, endState, InBud, RootFound}
+use Rattle.search.specs.ClassTable.{Exhausted, endState, InBud, RootFound}
 use Rattle.arcs.proofs.Tables.{in-arcs, arc-in, tail-is, tail-node}
 use Rattle.search.proofs.States.{is-reached, not-reached, base-at, reached-is-node}
 
@@ -26,7 +26,7 @@ module _ (n s : ℕ) (ts hs bs vs ss : List ℕ) where
   g = graphOf n s ts hs
 
   pub record RootAscent (v b : ℕ) : Type 0 where
-    pub barred : Barred n s ts hs bs vs ss
+    pub exhausted : Exhausted n s ts hs bs vs ss
     pub is-node : b < 2 * n
     pub pairs-few : n ≤ 128
     pub births-long : length bs ≡ 2 * n
@@ -34,17 +34,17 @@ module _ (n s : ℕ) (ts hs bs vs ss : List ℕ) where
     pub bases-long : length ss ≡ n
     pub is-arc : getD vs b 0 < length ts
     pub tail-low : getD ts (getD vs b 0) 0 < 2 * n
-    pub base : (B : Barred n s ts hs bs vs ss) → BudBase (endState B) b
-    pub is : (B : Barred n s ts hs bs vs ss) → root g (endState B) b ≡ rootOf g (endState B) v
+    pub base : (B : Exhausted n s ts hs bs vs ss) → BudBase (endState B) b
+    pub is : (B : Exhausted n s ts hs bs vs ss) → root g (endState B) b ≡ rootOf g (endState B) v
 
-  root-ascent : (v b : ℕ) (B : Barred n s ts hs bs vs ss) →
-      ((B : Barred n s ts hs bs vs ss) → BudBase (endState B) b) →
-      ((B : Barred n s ts hs bs vs ss) → root g (endState B) b ≡ rootOf g (endState B) v) → RootAscent v b
+  root-ascent : (v b : ℕ) (B : Exhausted n s ts hs bs vs ss) →
+      ((B : Exhausted n s ts hs bs vs ss) → BudBase (endState B) b) →
+      ((B : Exhausted n s ts hs bs vs ss) → root g (endState B) b ≡ rootOf g (endState B) v) → RootAscent v b
   root-ascent v b B X e =
       let a = bud-arc g (endState B) (B .search .state .invariant) (B .shut) b (X B) in
       let l = in-arcs n s ts hs (getD vs b 0) (a .is-arc) in
       record {
-        barred = B;
+        exhausted = B;
         is-node = reached-is-node g bs vs ss (B .clock) (B .search .state) b (X B .both .reached);
         pairs-few = B .search .table .pairs-few;
         births-long = B .search .state .births-long;
@@ -58,7 +58,7 @@ module _ (n s : ℕ) (ts hs bs vs ss : List ℕ) where
 
   pub root-ascent-start : (v : ℕ) → InBud n s ts hs bs vs ss v → RootAscent v (getD ss (v / 2) 0)
   root-ascent-start v X =
-      root-ascent v (getD ss (v / 2) 0) (X .barred)
+      root-ascent v (getD ss (v / 2) 0) (X .exhausted)
       (λ B.
       let q = base-at g bs vs ss (B .clock) (B .search .state) v (X .is-node) in
       subst (λ (y : ℕ). BudBase (endState B) y) q
@@ -69,7 +69,7 @@ module _ (n s : ℕ) (ts hs bs vs ss : List ℕ) where
 
   module _ (v b x m : ℕ) (P : RootAscent v b) (ex : x ≡ getD ts (getD vs b 0) 0) (em : m ≡ mate x) where
     tail-x : tail g (getD vs b 0) ≡ x
-    tail-x = tail-is n s ts hs (getD vs b 0) (arc-in n s ts hs (P .barred .search .table) (getD vs b 0) (P .is-arc)) ∙ sym ex
+    tail-x = tail-is n s ts hs (getD vs b 0) (arc-in n s ts hs (P .exhausted .search .table) (getD vs b 0) (P .is-arc)) ∙ sym ex
 
     x-low : x < 2 * n
     x-low = rw ex (P .tail-low)
@@ -86,15 +86,15 @@ module _ (n s : ℕ) (ts hs bs vs ss : List ℕ) where
               sym (root-stop g (endState B) (B .search .state .invariant) (B .shut) b y) ∙ P .is B;
         }
 
-    up-reached : (getD bs m 0 ≡ 0 → ⊥) → (B : Barred n s ts hs bs vs ss) → ltb 0 (getD bs (mate (tail g (getD vs b 0))) 0) ≡ true
+    up-reached : (getD bs m 0 ≡ 0 → ⊥) → (B : Exhausted n s ts hs bs vs ss) → ltb 0 (getD bs (mate (tail g (getD vs b 0))) 0) ≡ true
     up-reached z B = rw tail-x (rw (← em) (is-reached (getD bs m 0) z))
 
-    up-base : (B : Barred n s ts hs bs vs ss) → endState B .base (tail g (getD vs b 0)) ≡ getD ss (x / 2) 0
+    up-base : (B : Exhausted n s ts hs bs vs ss) → endState B .base (tail g (getD vs b 0)) ≡ getD ss (x / 2) 0
     up-base B = ap (endState B .base) tail-x ∙ base-at g bs vs ss (B .clock) (B .search .state) x x-low
 
     pub root-ascent-next : (getD bs m 0 ≡ 0 → ⊥) → RootAscent v (getD ss (x / 2) 0)
     root-ascent-next z =
-        root-ascent v (getD ss (x / 2) 0) (P .barred)
+        root-ascent v (getD ss (x / 2) 0) (P .exhausted)
         (λ B.
         subst (λ (y : ℕ). BudBase (endState B) y) (up-base B)
         (bud-base g (endState B) (B .search .state .invariant) (tail g (getD vs b 0))
@@ -105,7 +105,7 @@ module _ (n s : ℕ) (ts hs bs vs ss : List ℕ) where
 
     pub root-ascent-less : (getD bs m 0 ≡ 0 → ⊥) → getD bs (getD ss (x / 2) 0) 0 < getD bs b 0
     root-ascent-less z =
-        let B = P .barred in
+        let B = P .exhausted in
         let a = bud-arc g (endState B) (B .search .state .invariant) (B .shut) b (P .base B) in
         rw (up-base B) at (a .base-earlier)
 

@@ -15,7 +15,7 @@ use lib.Seq.{sets}
 use Rattle.skew.specs.Graph.{Graph, nodes, isWanted, isReachable, hasPath, canonical}
 use Rattle.arcs.specs.Table.{graphOf}
 use Rattle.search.specs.State.{Clear}
-use Rattle.search.specs.ClassTable.{Barred}
+use Rattle.search.specs.ClassTable.{Exhausted}
 use Rattle.search.specs.declared.answer.Answer.{Answer}
 use Rattle.search.specs.declared.answer.Answer.the-variants.{Path, NoPath}
 
@@ -31,7 +31,7 @@ ReachedOnly g rs = (v : ℕ) → ltb 0 (getD rs v 0) ≡ true → isReachable g 
 
 abbrev pub PathSought : (n s : ℕ) (ts hs : List ℕ) → Answer → (before after births vias bases marks : List ℕ) → Type 0
 PathSought n s ts hs (Path k) p p′ bs vs ss ms = PathWritten (graphOf n s ts hs) k p p′ × ReachedOnly (graphOf n s ts hs) bs
-PathSought n s ts hs NoPath p p′ bs vs ss ms = (p′ ≡ p) × Barred n s ts hs bs vs ss × Clear (graphOf n s ts hs) ms
+PathSought n s ts hs NoPath p p′ bs vs ss ms = (p′ ≡ p) × Exhausted n s ts hs bs vs ss × Clear (graphOf n s ts hs) ms
 
 abbrev pub Searched : Graph → Answer → (before after reached : List ℕ) → Type 0
 Searched g (Path k) p p′ rs = PathWritten g k p p′ × ReachedOnly g rs

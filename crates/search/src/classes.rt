@@ -8,7 +8,7 @@ ghost use lib.ListN.{length};
 ghost use Rattle.skew.specs.Graph.{canonical};
 ghost use Rattle.arcs.specs.Table.{graphOf};
 ghost use Rattle.search.specs.State.{Clear};
-ghost use Rattle.search.specs.ClassTable.{Barred, InBud, RootFound, Classing};
+ghost use Rattle.search.specs.ClassTable.{Exhausted, InBud, RootFound, Classing};
 use arcs::node::mate_of;
 use arcs::node::narrow;
 use arcs::node::wide;
@@ -92,7 +92,7 @@ pub fn classes(
     number: &mut [usize],
     classes: &mut [u8],
 )
-    requires { ⌜ Barred pairs source (now tails) (now heads) (now birth) (now via) (now base) ⌝ }
+    requires { ⌜ Exhausted pairs source (now tails) (now heads) (now birth) (now via) (now base) ⌝ }
     requires { ⌜ Clear (graphOf pairs source (now tails) (now heads)) (now number) × (length (now classes) ≡ 2 * pairs) ⌝ }
     ensures { λ _. ⌜ now (classes .exit) ≡ canonical (graphOf pairs source (now (tails .entry)) (now (heads .entry))) ⌝ }
 {

@@ -1,6 +1,6 @@
 -- The source's mate is reached and the path restored, or the tables show that there is none.
 use mathlib.Core.Path.{refl}
-use Rattle.search.proofs.Answers.{source-small, restorable, path-written, reached-only, barred}
+use Rattle.search.proofs.Answers.{source-small, restorable, path-written, reached-only, exhausted}
 use borrow.Author.Needs.{needs}
 use Rattle.search.proofs.answer.find_path.Statement.{statement}
 use Rattle.search.proofs.answer.find_path.Tie as tie
@@ -70,7 +70,7 @@ returns-2 : tie.Need-returns-2
 returns-2 c =
     let search = c .before .before .before .before .before .before .before .before .before .before .before .search in
     let if1 = c .if1 in
-    (refl, barred _ _ _ _ _ _ _ _ _ (search .ensures) (if1 .left), search .ensures .clear)
+    (refl, exhausted _ _ _ _ _ _ _ _ _ (search .ensures) (if1 .left), search .ensures .clear)
 
 pub find-path-spec : {M : Type 1} → statement M
 find-path-spec =
