@@ -6,6 +6,7 @@ use mathlib.Core.Path.{_≡_}
 use mathlib.Core.List.{List}
 use Prim.Native.Nat.{ℕ, _≤_, _<_}
 use lib.ListN.{length, getD}
+use Rattle.formats.specs.Limits.{arcsMost, matePairsMost}
 use Rattle.counting.specs.Pairs.{zipPairs}
 use Rattle.skew.specs.Graph.{Graph}
 use Rattle.skew.specs.Paths.{WellFormed}
@@ -21,5 +22,5 @@ pub record Covers (ts hs : List ℕ) (n : ℕ) : Type 0 where
 pub record ArcTable (n s : ℕ) (ts hs : List ℕ) : Type 0 where
   pub well-formed : WellFormed (graphOf n s ts hs)
   pub as-long : length hs ≡ length ts
-  pub pairs-few : n ≤ 128
-  pub arcs-few : length ts ≤ 8192
+  pub pairs-few : n ≤ matePairsMost
+  pub arcs-few : length ts ≤ arcsMost

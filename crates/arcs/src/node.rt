@@ -3,6 +3,7 @@
 //   mate_of         the mate of a node or an arc
 ghost use mathlib.Core.Path.{_≡_};
 ghost use Prim.Native.Nat.{_<_};
+ghost use Rattle.formats.specs.Limits.{arcsMost};
 ghost use Rattle.skew.specs.Graph.{mate};
 
 pub fn wide(x: u8) -> usize
@@ -20,7 +21,7 @@ pub fn narrow(x: usize) -> u8
 
 // The mate of a node, or of an arc.
 pub fn mate_of(v: usize) -> usize
-    requires { ⌜ v < 8192 ⌝ }
+    requires { ⌜ v < arcsMost ⌝ }
     ensures { λ r. ⌜ r ≡ mate v ⌝ }
 {
     if v % 2 == 0 { v + 1 } else { v - 1 }

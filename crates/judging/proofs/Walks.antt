@@ -15,6 +15,7 @@ use lib.Dec.{ltb, eqb}
 use lib.ListN.{length, getD, drop, set, length-set, drop-of-length-le, replicate, length-replicate, getD-replicate, List·getD-eq-default}
 use lib.Seq.{drop-cons, getD-set-same, getD-set-other}
 use borrow.Author.Tests.{eqb-true, eq-eqb, ne-eqb, ltb-true, ltb-false, lt-ltb}
+use Rattle.formats.specs.Limits.{arcsMost}
 use Rattle.counting.specs.Tests.{among}
 use Rattle.counting.proofs.Booleans.{and-two, and-five, and-both, test-same, by-test, same-or}
 use Rattle.counting.proofs.Membership.{not-among-out, out-not-among}
@@ -74,16 +75,16 @@ marks-more t xs y M l x =
     (λ n. rw (ne-eqb x y n, getD-set-other t y x 1 0 n) (M x)) (same-or x y)
 
 -- THE LOOP
-pub walking-start : (g : Graph) (path : List ℕ) → g .source < 256 → Walking g path 0 (g .source) (set (replicate 256 0) (g .source) 1) (replicate 8192 0)
+pub walking-start : (g : Graph) (path : List ℕ) → g .source < 256 → Walking g path 0 (g .source) (set (replicate 256 0) (g .source) 1) (replicate arcsMost 0)
 walking-start g path l =
     record {
       within = omega arith;
       seen = g .source ∷ [];
       used = [];
       seen-marks = marks-more (replicate 256 0) [] (g .source) (marks-none 256) (omega (arith, length-replicate {A = ℕ} 256 0));
-      used-marks = marks-none 8192;
+      used-marks = marks-none arcsMost;
       seen-long = length-set (replicate 256 0) (g .source) 1 ∙ length-replicate {A = ℕ} 256 0;
-      used-long = length-replicate {A = ℕ} 8192 0;
+      used-long = length-replicate {A = ℕ} arcsMost 0;
       rest = wanted-from g path;
     }
 
@@ -134,7 +135,7 @@ module _ (n s : ℕ) (ts hs path : List ℕ) (k v : ℕ) (t u : List ℕ) (W : W
         pub walking-used : getD u m 0 ≡ 1 → false ≡ isWanted g path
         walking-used q = rw (walking-step y m ey em, eq-eqb x v e, ne-eqb (getD t y 0) 1 f, eq-eqb (getD u m 0) 1 q)
 
-        pub walking-next : getD u m 0 ≢ 1 → y < 256 → i < 8192 → Walking g path (k + 1) y (set t y 1) (set u i 1)
+        pub walking-next : getD u m 0 ≢ 1 → y < 256 → i < arcsMost → Walking g path (k + 1) y (set t y 1) (set u i 1)
         walking-next q h a =
             record {
               within = omega arith;

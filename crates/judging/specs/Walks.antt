@@ -8,6 +8,7 @@ use mathlib.Core.List.{List, [], _∷_}
 use Prim.Native.Nat.{ℕ, _≤_}
 use lib.Dec.{ltb, eqb}
 use lib.ListN.{length, getD, drop}
+use Rattle.formats.specs.Limits.{arcsMost}
 use Rattle.counting.specs.Tests.{among}
 use Rattle.skew.specs.Graph.{Graph, mate, isWanted}
 use Rattle.skew.specs.Paths.{tail, head}
@@ -28,5 +29,5 @@ pub record Walking (g : Graph) (path : List ℕ) (k v : ℕ) (t u : List ℕ) : 
   pub seen-marks : Marks t seen
   pub used-marks : Marks u used
   pub seen-long : length t ≡ 256
-  pub used-long : length u ≡ 8192
+  pub used-long : length u ≡ arcsMost
   pub rest : isWanted g path ≡ wantedFrom g v seen used (drop k path)

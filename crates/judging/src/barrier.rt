@@ -6,6 +6,7 @@
 ghost use mathlib.Core.Path.{_≡_};
 ghost use Prim.Native.Nat.{ℕ, _*_, _%_, _≤_, _<_};
 ghost use lib.ListN.{length, getD};
+ghost use Rattle.formats.specs.Limits.{arcsMost};
 ghost use Rattle.counting.specs.Tests.{all, below};
 ghost use Rattle.counting.specs.Pairs.{zipPairs};
 ghost use Rattle.skew.specs.Graph.{mateClass, matesAgree, largestOf, arcFits, entriesInto, isBarrier};
@@ -86,7 +87,7 @@ fn arcs_fit(tails: &[u8], heads: &[u8], classes: &[u8]) -> bool
 // How many arcs enter each class from A.
 fn count_entries(tails: &[u8], heads: &[u8], classes: &[u8]) -> [u16; 256]
     requires { ⌜ Covers (now tails) (now heads) (length (now classes)) ⌝ }
-    requires { ⌜ length (now tails) ≤ 8192 ⌝ }
+    requires { ⌜ length (now tails) ≤ arcsMost ⌝ }
     ensures { λ r. ⌜ ((c : ℕ) → c < 256 → getD r c 0 ≡ entriesInto (now (classes .entry)) c (zipPairs (now (tails .entry)) (now (heads .entry)))) ⌝ }
 {
     let mut entries = [0u16; 256];

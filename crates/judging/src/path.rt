@@ -7,6 +7,7 @@ ghost use Rattle.skew.specs.Graph.{isWanted};
 ghost use Rattle.arcs.specs.Table.{graphOf, ArcTable};
 use arcs::node::mate_of;
 use arcs::node::wide;
+use formats::limits::ARCS_MOST;
 
 // Each arc starts where the one before ended, at a node not seen before, and its mate was not used. Mates are told by their numbers.
 pub fn is_wanted(pairs: usize, source: usize, tails: &[u8], heads: &[u8], path: &[u16]) -> bool
@@ -15,7 +16,7 @@ pub fn is_wanted(pairs: usize, source: usize, tails: &[u8], heads: &[u8], path: 
     ensures { λ r. ⌜ r ≡ isWanted (graphOf pairs source (now (tails .entry)) (now (heads .entry))) (now (path .entry)) ⌝ }
 {
     let mut seen = [0u8; 256];
-    let mut used = [0u8; 8192];
+    let mut used = [0u8; ARCS_MOST];
     seen[source] = 1;
     let mut at = source;
     let mut k: usize = 0;

@@ -19,6 +19,7 @@ use lib.Dec.{ltb, eqb}
 use lib.ListN.{length, getD, take, replicate, length-replicate, getD-replicate, List·getD-eq-default}
 use lib.Seq.{length-take-le, getD-take}
 use borrow.Author.Tests.{ltb-true, ltb-false}
+use Rattle.formats.specs.Limits.{arcsMost}
 use Rattle.counting.proofs.Booleans.{and-left, by-test}
 use Rattle.counting.proofs.Range.{pigeonhole}
 use Rattle.counting.proofs.Stores.{take-sets}
@@ -56,7 +57,7 @@ module _ (n s : ℕ) (ts hs bs vs ss ms : List ℕ) (r : Bool) (E : Ended n s ts
   abbrev st : State
   st = stateOf bs vs ss (E .clock)
 
-  pub source-small : s < 8192
+  pub source-small : s < arcsMost
   source-small = omega (arith, E .search .table .well-formed .source-node, E .search .table .pairs-few)
 
   pub reached-only : ReachedOnly g bs

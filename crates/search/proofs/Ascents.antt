@@ -15,6 +15,7 @@ use lib.Dec.{eqb}
 use lib.ListN.{length, getD, set, length-set}
 use lib.Seq.{getD-set-same, getD-set-other}
 use borrow.Author.Tests.{eqb-true, eqb-false, eq-eqb}
+use Rattle.formats.specs.Limits.{matePairsMost}
 use Rattle.counting.proofs.Booleans.{by-test, true-false, same-or}
 use Rattle.skew.specs.Graph.{Graph, mate, nodes}
 use Rattle.skew.specs.Paths.{tail, head, SkewSymmetric}
@@ -255,7 +256,7 @@ pub record Ascending (n s : ℕ) (ts hs bs vs₀ ss : List ℕ) (k i j v z : ℕ
   pub mated : j ≡ mate i
   pub p-node : p < 2 * n
   pub q-node : q < 2 * n
-  pub pairs-few : n ≤ 128
+  pub pairs-few : n ≤ matePairsMost
   pub births-long : length bs ≡ 2 * n
   pub vias-long : length vs ≡ 2 * n
   pub vias-were : length vs₀ ≡ 2 * n

@@ -13,6 +13,7 @@ use lib.Dec.{ltb, eqb}
 use lib.ListN.{length, getD, set, length-set, List·getD-eq-default}
 use lib.Seq.{getD-set-same, getD-set-other}
 use borrow.Author.Tests.{eqb-true, eqb-false, eq-eqb, ne-eqb, ltb-true, lt-ltb, ltb-false}
+use Rattle.formats.specs.Limits.{arcsMost}
 use Rattle.counting.specs.Tests.{pick}
 use Rattle.counting.proofs.Booleans.{by-test, true-false, same-or}
 use Rattle.counting.proofs.Membership.{getD-default}
@@ -51,7 +52,7 @@ module _ (n s : ℕ) (ts hs bs vs ss : List ℕ) (k d i : ℕ) (vs′ ms : List 
     λ j l. omega (arith, H .base-node j (omega (arith, H .bases-long)), A .marks-long),
   )
 
-  pub mate-asked : (m : ℕ) → m ≡ mate d → (d < 8192) × (m < length bs) × (m < 256)
+  pub mate-asked : (m : ℕ) → m ≡ mate d → (d < arcsMost) × (m < length bs) × (m < 256)
   mate-asked m e =
       rw e (
         omega (arith, A .is-node, S .table .pairs-few),

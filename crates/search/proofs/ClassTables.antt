@@ -15,6 +15,7 @@ use lib.Dec.{ltb}
 use lib.ListN.{length, getD, set, length-set}
 use lib.Seq.{getD-set-same, getD-set-other, ext-getD}
 use borrow.Author.Tests.{eqb-true, eq-eqb}
+use Rattle.formats.specs.Limits.{matePairsMost}
 use Rattle.counting.specs.Tests.{pick, upFrom}
 use Rattle.counting.specs.Lists.{In, Distinct}
 use Rattle.counting.proofs.Booleans.{true-false, same-or}
@@ -88,7 +89,7 @@ module _ (n s : ℕ) (ts hs bs vs ss : List ℕ) where
       pub v-birth : v < length bs
       pub m-birth : m < length bs
       pub v-class : v < length cs
-      pub pairs-few : n ≤ 128
+      pub pairs-few : n ≤ matePairsMost
       pub number-few : next ≤ 131
 
     pub class-reads : ClassReads

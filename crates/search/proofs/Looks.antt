@@ -15,6 +15,7 @@ use native.Mathlib.Omega.{arith}
 use lib.Dec.{eqb}
 use lib.ListN.{length, getD, set}
 use borrow.Author.Tests.{eqb-true, lt-ltb, le-ltb}
+use Rattle.formats.specs.Limits.{arcsMost, matePairsMost}
 use Rattle.counting.proofs.Booleans.{by-test, true-false}
 use Rattle.skew.specs.Graph.{Graph, mate}
 use Rattle.skew.specs.Paths.{tail, head}
@@ -67,7 +68,7 @@ module _ (n s : ℕ) (ts hs bs vs ss : List ℕ) (k i : ℕ) (S : SearchHeld n s
       pub p-via : getD ss (x / 2) 0 < length vs
       pub q-via : getD ss (y / 2) 0 < length vs
       pub vias-few : length vs ≤ 256
-      pub arcs-few : i < 8192
+      pub arcs-few : i < arcsMost
 
     pub settled-reads : SettledReads
     settled-reads =
@@ -136,7 +137,7 @@ module _ (n s : ℕ) (ts hs bs vs ss : List ℕ) (k i : ℕ) (S : SearchHeld n s
       pub y-birth : y < length bs
       pub clock-few : k ≤ 1000
       pub queue-few : length q ≤ 256
-      pub pairs-few : n ≤ 128
+      pub pairs-few : n ≤ matePairsMost
 
     pub look-reads : LookReads
     look-reads =

@@ -16,6 +16,7 @@ use lib.Dec.{ltb}
 use lib.ListN.{length, getD, set, length-set, length-append, List·getD-eq-default}
 use lib.Seq.{sets, length-sets}
 use borrow.Author.Tests.{ltb-true, ltb-false}
+use Rattle.formats.specs.Limits.{arcsMost, matePairsMost}
 use Rattle.counting.specs.Lists.{reverseMap}
 use Rattle.counting.proofs.Booleans.{by-test, true-false}
 use Rattle.counting.proofs.Reversal.{length-reverse}
@@ -58,12 +59,12 @@ module _ (n s : ℕ) (ts hs bs vs : List ℕ) where
     pub p₁ : List ℕ
     pub p₂ : List ℕ
     pub is-node : v < 2 * n
-    pub pairs-few : n ≤ 128
+    pub pairs-few : n ≤ matePairsMost
     pub vias-long : length vs ≡ 2 * n
     pub births-long : length bs ≡ 2 * n
     pub in-tails : getD vs v 0 < length ts
     pub in-heads : getD vs v 0 < length hs
-    pub arc-few : getD vs v 0 < 8192
+    pub arc-few : getD vs v 0 < arcsMost
     pub tail-node : getD ts (getD vs v 0) 0 < 2 * n
     pub head-node : getD hs (getD vs v 0) 0 < 2 * n
     pub r₁ : Route g bs vs stop (getD ts (getD vs v 0) 0) p₁
@@ -154,7 +155,7 @@ module _ (n s : ℕ) (ts hs bs vs : List ℕ) where
       arcs-low u w (i ∷ is) J zero h = J .0
       arcs-low u w (i ∷ is) J (suc j) h = arcs-low (head g i) w is (J .2) j (omega arith)
 
-      pub reverse-arcs : (k : ℕ) → a + 1 ≤ k → k < b → getD out₂ k 0 < 8192
+      pub reverse-arcs : (k : ℕ) → a + 1 ≤ k → k < b → getD out₂ k 0 < arcsMost
       reverse-arcs k h l =
           let J = seg-joins (C .labels .table .well-formed .symmetric) (C .r₂) in
           let i : a + 1 + (k - (a + 1)) ≡ k = omega arith in

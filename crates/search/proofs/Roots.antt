@@ -11,6 +11,7 @@ use Prim.Native.Nat.{ℕ, _*_, _/_, _≤_, _<_}
 use native.Mathlib.Omega.{arith}
 use lib.Dec.{ltb}
 use lib.ListN.{length, getD}
+use Rattle.formats.specs.Limits.{matePairsMost}
 use Rattle.skew.specs.Graph.{Graph, mate}
 use Rattle.skew.specs.Paths.{tail}
 use Rattle.skew.specs.Forest.{BudBase, root, rootOf}
@@ -28,7 +29,7 @@ module _ (n s : ℕ) (ts hs bs vs ss : List ℕ) where
   pub record RootAscent (v b : ℕ) : Type 0 where
     pub exhausted : Exhausted n s ts hs bs vs ss
     pub is-node : b < 2 * n
-    pub pairs-few : n ≤ 128
+    pub pairs-few : n ≤ matePairsMost
     pub births-long : length bs ≡ 2 * n
     pub vias-long : length vs ≡ 2 * n
     pub bases-long : length ss ≡ n

@@ -12,6 +12,7 @@ use native.Mathlib.Omega.{arith}
 use lib.Dec.{ltb}
 use lib.ListN.{length, getD, List·getD-eq-default}
 use borrow.Author.Tests.{ltb-true, lt-ltb, ltb-false, le-ltb}
+use Rattle.formats.specs.Limits.{arcsMost, matePairsMost}
 use Rattle.counting.proofs.Booleans.{by-test, true-false}
 use Rattle.counting.proofs.Membership.{getD-default}
 use Rattle.skew.specs.Graph.{Graph, nodes}
@@ -59,10 +60,10 @@ cleared g ms ms′ l M =
 pub record ArcBounds (n i : ℕ) (ts hs bs vs ss : List ℕ) : Type 0 where
   pub in-tails : i < length ts
   pub in-heads : i < length hs
-  pub small : i < 8192
+  pub small : i < arcsMost
   pub tail-node : getD ts i 0 < 2 * n
   pub head-node : getD hs i 0 < 2 * n
-  pub pairs-few : n ≤ 128
+  pub pairs-few : n ≤ matePairsMost
   pub births-long : length bs ≡ 2 * n
   pub vias-long : length vs ≡ 2 * n
   pub bases-long : length ss ≡ n

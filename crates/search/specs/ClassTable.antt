@@ -11,6 +11,7 @@ use mathlib.Core.List.{List}
 use Prim.Native.Nat.{ℕ, _+_, _*_, _/_, _≤_, _<_}
 use lib.Dec.{ltb}
 use lib.ListN.{length, getD}
+use Rattle.formats.specs.Limits.{classMost}
 use Rattle.counting.specs.Tests.{keep}
 use Rattle.skew.specs.Graph.{Graph, mate, classOf, partNumber, isFirst, xNodes}
 use Rattle.skew.specs.Search.{State}
@@ -53,4 +54,4 @@ pub record Classing (n s : ℕ) (ts hs bs vs ss : List ℕ) (v : ℕ) (nr cs : L
       (u : ℕ) × (u < v) × BothReached (endState exhausted) u × (rootOf (graphOf n s ts hs) (endState exhausted) u ≡ t)
   pub count : next ≡ 3 + firstsBefore (graphOf n s ts hs) v
   pub next-few : next ≤ 3 + (v + 1) / 2
-  pub numbers-few : (t : ℕ) → getD nr t 0 ≤ 130
+  pub numbers-few : (t : ℕ) → getD nr t 0 ≤ classMost

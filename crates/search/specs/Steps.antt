@@ -19,6 +19,7 @@ use mathlib.Core.List.{List}
 use Prim.Native.Nat.{ℕ, _+_, _/_, _≤_, _<_}
 use lib.Dec.{ltb, eqb}
 use lib.ListN.{length, getD, set}
+use Rattle.formats.specs.Limits.{arcsMost}
 use Rattle.counting.specs.Tests.{pick}
 use Rattle.skew.specs.Graph.{Graph, mate, nodes}
 use Rattle.skew.specs.Paths.{tail, head}
@@ -70,7 +71,7 @@ abbrev pub labelled : (births vias : List ℕ) (node arc : ℕ) → List ℕ
 labelled bs vs v e = pick (eqb (getD bs v 0) 0) (set vs v e) vs
 
 pub record Absorbs (ts bs vs ss ms : List ℕ) (q e : ℕ) : Type 0 where
-  pub small : q < 8192
+  pub small : q < arcsMost
   pub in-marks : q < length ms
   pub in-vias : q < length vs
   pub mate-in-births : mate q < length bs

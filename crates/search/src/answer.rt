@@ -14,6 +14,7 @@ use crate::restore::restore;
 use crate::search::search;
 use crate::steps::clear;
 use arcs::node::mate_of;
+use formats::limits::MATE_PAIRS_MOST;
 
 pub enum Answer {
     // The number of the path's arcs.
@@ -74,7 +75,7 @@ pub fn path_or_reached(
     ensures { λ r. ⌜ Searched (graphOf pairs source (now (tails .entry)) (now (heads .entry))) r (now (path .entry)) (now (path .exit)) (now (reached .exit)) ⌝ }
 {
     let mut via = [0usize; 256];
-    let mut base = [0usize; 128];
+    let mut base = [0usize; MATE_PAIRS_MOST];
     let mut mark = [0usize; 256];
     let mut queue = [0usize; 256];
     let nodes = 2 * pairs;
@@ -147,7 +148,7 @@ pub fn path_or_barrier(
 {
     let mut birth = [0usize; 256];
     let mut via = [0usize; 256];
-    let mut base = [0usize; 128];
+    let mut base = [0usize; MATE_PAIRS_MOST];
     let mut mark = [0usize; 256];
     let mut queue = [0usize; 256];
     let nodes = 2 * pairs;

@@ -3,13 +3,14 @@
 //   restore         the path that the labels give; it calls itself on inner buds, the birth number falling
 ghost use Prim.Native.Nat.{ℕ, _≤_, _<_};
 ghost use lib.ListN.{length, getD};
+ghost use Rattle.formats.specs.Limits.{arcsMost};
 ghost use Rattle.search.specs.Restore.{Restorable, Restored, MateReversed};
 use arcs::node::mate_of;
 use arcs::node::wide;
 
 fn mate_reverse(arcs: &mut [usize], from: usize, to: usize)
     requires { ⌜ (from ≤ to) × (to ≤ length (now arcs)) ⌝ }
-    requires { ⌜ ((k : ℕ) → from ≤ k → k < to → getD (now arcs) k 0 < 8192) ⌝ }
+    requires { ⌜ ((k : ℕ) → from ≤ k → k < to → getD (now arcs) k 0 < arcsMost) ⌝ }
     ensures { λ _. ⌜ MateReversed (now (arcs .entry)) (now (arcs .exit)) from to ⌝ }
 {
     let mut a = from;

@@ -10,6 +10,7 @@
 ghost use mathlib.Core.Path.{_≡_};
 ghost use Prim.Native.Nat.{_+_, _*_, _≤_, _<_};
 ghost use lib.ListN.{length};
+ghost use Rattle.formats.specs.Limits.{matePairsMost};
 ghost use Rattle.arcs.specs.Table.{graphOf, ArcTable};
 ghost use Rattle.search.specs.State.{stateOf, SearchHeld, Clear};
 ghost use Rattle.search.specs.Steps.{Mapped};
@@ -195,7 +196,7 @@ fn scan(
 
 // Each mate pair a fragment of its own.
 fn reset_bases(base: &mut [usize])
-    requires { ⌜ length (now base) ≤ 128 ⌝ }
+    requires { ⌜ length (now base) ≤ matePairsMost ⌝ }
     ensures { λ _. ⌜ Mapped doubled (now (base .entry)) (now (base .exit)) (length (now (base .entry))) ⌝ }
 {
     let mut k: usize = 0;

@@ -3,6 +3,7 @@ use Prim.Native.Nat.{_-_}
 use mathlib.Core.Path.{refl}
 use native.Mathlib.Omega.{arith}
 use lib.ListN.{length, getD}
+use Rattle.formats.specs.Limits.{arcsMost}
 use Rattle.skew.proofs.Mates.{mate-below}
 use Rattle.arcs.specs.Table.{graphOf}
 use Rattle.arcs.proofs.Tables.{arc-in}
@@ -94,7 +95,7 @@ array-read-if3 c =
     let loop = c .before .before .before .before .before .before .before .before .before .loop in
     let pre = c .before .before .before .before .before .before .before .before .before .before .before .before .before .pre in
     let loop-test = c .before .before .before .before .before .before .before .before .loop-test in
-    omega (arith, c .mate-of .ensures, mate-below (getD (args .path .now) (loop .k) 0) 8192 refl (omega (arith, pre .0 .arcs-few, pre .1 (loop .k) (loop-test .taken))))
+    omega (arith, c .mate-of .ensures, mate-below (getD (args .path .now) (loop .k) 0) arcsMost refl (omega (arith, pre .0 .arcs-few, pre .1 (loop .k) (loop-test .taken))))
 
 returns-3 : tie.Need-returns-3 Inv-loop μ-loop
 returns-3 c =

@@ -1,0 +1,38 @@
+-- Limits (document 01, "Questions put to a call"), each with the question that asks for it.
+--   room             1: bytes of an answer's buffer, at least
+--   fileMost         2: bytes of a file
+--   linesMost        lines that a file of so many bytes can have behind a header, each of seven bytes at least
+--   matePairsMost    5: mate pairs of a graph
+--   camerasMost      5: cameras of a stock
+--   arcsMost         8: arcs of a graph
+--   fitsMost         8: fits of a stock
+--   stepsMost        8: lines of a path
+--   classMost        9: the highest class
+use Prim.Native.Nat.{ℕ}
+
+abbrev pub room : ℕ
+room = 2048
+
+abbrev pub fileMost : ℕ
+fileMost = 60000
+
+abbrev pub linesMost : ℕ
+linesMost = 8571
+
+abbrev pub matePairsMost : ℕ
+matePairsMost = 0x80
+
+abbrev pub camerasMost : ℕ
+camerasMost = 0x7F
+
+abbrev pub arcsMost : ℕ
+arcsMost = 8192
+
+abbrev pub fitsMost : ℕ
+fitsMost = 3900
+
+abbrev pub stepsMost : ℕ
+stepsMost = 255
+
+abbrev pub classMost : ℕ
+classMost = 0x82
