@@ -23,13 +23,13 @@ use Rattle.pairing.specs.Row.{pairsLeft}
 use Rattle.pairing.proofs.Doubling.{pair-at}
 
 -- LIT
-pub lit-none : (us vs : List ℕ) → length vs ≡ length us → partner (drop (length us) (zipPairs us vs)) ≡ partner []
-lit-none us vs e = ap partner (ap (λ (m : ℕ). drop m (zipPairs us vs)) (sym (zip-length us vs e)) ∙ drop-length (zipPairs us vs))
+pub lit-none : (firsts seconds : List ℕ) → length seconds ≡ length firsts → partner (drop (length firsts) (zipPairs firsts seconds)) ≡ partner []
+lit-none firsts seconds e = ap partner (ap (λ (m : ℕ). drop m (zipPairs firsts seconds)) (sym (zip-length firsts seconds e)) ∙ drop-length (zipPairs firsts seconds))
 
-pub lit-one : (row us vs : List ℕ) (i : ℕ) → length vs ≡ length us → i < length us → getD us i 0 < length row → getD vs i 0 < length row →
-    partnerIn row ≡ partner (drop (i + 1) (zipPairs us vs)) → partnerIn (lightRow row (getD us i 0) (getD vs i 0)) ≡ partner (drop i (zipPairs us vs))
-lit-one row us vs i l h a b e =
-    light-row row (pair (getD us i 0) (getD vs i 0)) (drop (i + 1) (zipPairs us vs)) a b e ∙ ap partner (sym (pair-at us vs i l h))
+pub lit-one : (row firsts seconds : List ℕ) (i : ℕ) → length seconds ≡ length firsts → i < length firsts → getD firsts i 0 < length row → getD seconds i 0 < length row →
+    partnerIn row ≡ partner (drop (i + 1) (zipPairs firsts seconds)) → partnerIn (lightRow row (getD firsts i 0) (getD seconds i 0)) ≡ partner (drop i (zipPairs firsts seconds))
+lit-one row firsts seconds i l h a b e =
+    light-row row (pair (getD firsts i 0) (getD seconds i 0)) (drop (i + 1) (zipPairs firsts seconds)) a b e ∙ ap partner (sym (pair-at firsts seconds i l h))
 
 -- IN ORDER
 pub pair-few : (k w : ℕ) → length (pairOf k w) ≤ 1

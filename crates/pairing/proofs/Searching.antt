@@ -1,5 +1,5 @@
 -- The doubled table of a row as a search sees it, and what each of the search's answers gives.
---   front-length                    the front of a table of zeros, lent for the nodes of a doubled table
+--   row-front, reached-front        the front of a local table: a row of cameras, the nodes of its doubled table
 --   path-answer, barrier-answer     what an answer says, by its cases
 --   as-long, arc-table              the tables lent are an arc table
 --   path-rotates, path-stepped      a wanted path can be followed, and gives one pair more
@@ -29,24 +29,27 @@ use Rattle.matching.proofs.Augmentation.{wanted-augments}
 use Rattle.pairing.specs.Table.{FitTable, Doubled}
 use Rattle.pairing.specs.Row.{tableGraph}
 use Rattle.pairing.specs.Plan.{reachedIn, Stepped}
+use Rattle.pairing.proofs.Doubling.{doubled-graph}
 
-pub front-length : (n k : ℕ) → n ≤ 127 → k ≡ n → length (take (2 * (n + 1)) (replicate {A = ℕ} 256 0)) ≡ 2 * (k + 1)
-front-length n k h e =
-    length-take-le (2 * (n + 1)) (replicate {A = ℕ} 256 0) (omega (arith, length-replicate {A = ℕ} 256 0)) ∙ omega arith
+pub row-front : (n : ℕ) → n ≤ 127 → length (take n (replicate {A = ℕ} 127 0)) ≡ n
+row-front n h = length-take-le n (replicate {A = ℕ} 127 0) (omega (arith, length-replicate {A = ℕ} 127 0))
 
-pub path-answer : (g : Graph) (a : Answer) (k : ℕ) (path rs cs : List ℕ) → a ≡ Path k → Answered g a path rs cs → (k < nodes g) × (isWanted g (take k path) ≡ true)
-path-answer g a k path rs cs e A = subst (λ (z : Answer). Answered g z path rs cs) e A
+pub reached-front : (n : ℕ) → n ≤ 127 → length (take (2 * (n + 1)) (replicate {A = ℕ} 256 0)) ≡ 2 * (n + 1)
+reached-front n h = length-take-le (2 * (n + 1)) (replicate {A = ℕ} 256 0) (omega (arith, length-replicate {A = ℕ} 256 0))
 
-pub barrier-answer : (g : Graph) (a : Answer) (path rs cs : List ℕ) → a ≡ Barrier → Answered g a path rs cs →
-    (hasPath g ≡ false) × ((v : ℕ) → isReachable g v ≡ reachedIn rs v) × (cs ≡ canonical g)
-barrier-answer g a path rs cs e A = subst (λ (z : Answer). Answered g z path rs cs) e A
+pub path-answer : (g : Graph) (a : Answer) (k : ℕ) (path reached cs : List ℕ) → a ≡ Path k → Answered g a path reached cs → (k < nodes g) × (isWanted g (take k path) ≡ true)
+path-answer g a k path reached cs e A = subst (λ (z : Answer). Answered g z path reached cs) e A
 
-module _ (row us vs ts hs : List ℕ) (r : ℕ) (T : FitTable (length row) us vs) (M : Matching (zipPairs us vs) (partnerIn row)) (D : Doubled row (zipPairs us vs) ts hs r) where
+pub barrier-answer : (g : Graph) (a : Answer) (path reached cs : List ℕ) → a ≡ Barrier → Answered g a path reached cs →
+    (hasPath g ≡ false) × ((v : ℕ) → isReachable g v ≡ reachedIn reached v) × (cs ≡ canonical g)
+barrier-answer g a path reached cs e A = subst (λ (z : Answer). Answered g z path reached cs) e A
+
+module _ (row firsts seconds : List ℕ) {ts₀ hs₀ ts hs : List ℕ} {r : ℕ} (T : FitTable (length row) firsts seconds) (M : Matching (zipPairs firsts seconds) (partnerIn row)) (D : Doubled row (zipPairs firsts seconds) ts₀ hs₀ ts hs r) where
   abbrev n : ℕ
   n = length row
 
   abbrev fs : List Pair
-  fs = zipPairs us vs
+  fs = zipPairs firsts seconds
 
   abbrev p : ℕ → ℕ
   p = partnerIn row
@@ -55,8 +58,12 @@ module _ (row us vs ts hs : List ℕ) (r : ℕ) (T : FitTable (length row) us vs
   abbrev g : Graph
   g = graphOf (n + 1) (2 * n) (take r ts) (take r hs)
 
+  -- as the theory counts them
+  told : tableGraph row (take r ts) (take r hs) ≡ doubledTable n fs p
+  told = doubled-graph row fs ts₀ hs₀ ts hs r D
+
   same : g ≡ doubledTable n fs p
-  same = ap (λ (k : ℕ). graphOf k (2 * n) (take r ts) (take r hs)) (add-one n) ∙ D .graph
+  same = ap (λ (k : ℕ). graphOf k (2 * n) (take r ts) (take r hs)) (add-one n) ∙ told
 
   pub as-long : length (take r hs) ≡ length (take r ts)
   as-long = length-take-le r hs (D .heads) ∙ sym (length-take-le r ts (D .tails))
@@ -75,25 +82,25 @@ module _ (row us vs ts hs : List ℕ) (r : ℕ) (T : FitTable (length row) us vs
     followed = wanted-augments n fs (T .fits) p M P (subst (λ (h : Graph). isWanted h P ≡ true) same w)
 
     pub path-rotates : Rotates n (tableGraph row (take r ts) (take r hs)) (drop 1 P) p
-    path-rotates = subst (λ (h : Graph). Rotates n h (drop 1 P) p) (sym (D .graph)) (followed .0)
+    path-rotates = subst (λ (h : Graph). Rotates n h (drop 1 P) p) (sym told) (followed .0)
 
-    pub path-stepped : (row′ rs : List ℕ) → partnerIn row′ ≡ rotateAlong (tableGraph row (take r ts) (take r hs)) (drop 1 P) p → Stepped fs row row′ rs true
-    path-stepped row′ rs e =
+    pub path-stepped : (row′ reached : List ℕ) → partnerIn row′ ≡ rotateAlong (tableGraph row (take r ts) (take r hs)) (drop 1 P) p → Stepped fs row row′ reached true
+    path-stepped row′ reached e =
         record {
           more = λ t.
-              subst (λ (q : ℕ → ℕ). Augments n fs p q) (sym (e ∙ ap (λ (h : Graph). rotateAlong h (drop 1 P) p) (D .graph))) (followed .1);
+              subst (λ (q : ℕ → ℕ). Augments n fs p q) (sym (e ∙ ap (λ (h : Graph). rotateAlong h (drop 1 P) p) told)) (followed .1);
           none = λ t. true-false refl t;
         }
 
-  pub barrier-stepped : (rs : List ℕ) → hasPath g ≡ false → ((v : ℕ) → isReachable g v ≡ reachedIn rs v) → Stepped fs row row rs false
-  barrier-stepped rs e reached =
+  pub barrier-stepped : (reached : List ℕ) → hasPath g ≡ false → ((v : ℕ) → isReachable g v ≡ reachedIn reached v) → Stepped fs row row reached false
+  barrier-stepped reached e tells =
       record {
         more = λ t. true-false t refl;
         none = λ t. (
           refl,
           record {
             no-path = subst (λ (h : Graph). hasPath h ≡ false) same e;
-            reached = λ v l. subst (λ (h : Graph). reachedIn rs v ≡ isReachable h v) same (sym (reached v));
+            tells = λ v l. subst (λ (h : Graph). reachedIn reached v ≡ isReachable h v) same (sym (tells v));
           },
         );
       }

@@ -5,5 +5,5 @@
 //   plan       largest pairings: plans and standing sheets
 mod marks;
 pub mod plan;
-pub mod row;
+mod row;
 mod table;

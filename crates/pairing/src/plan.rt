@@ -1,29 +1,27 @@
 // Largest pairings: search, augment, until there is no path.
 ghost use mathlib.Core.Path.{_≡_};
-ghost use mathlib.Core.Bool.{true};
-ghost use Prim.Native.Nat.{_+_, _*_};
+ghost use Prim.Native.Nat.{_+_, _*_, _≤_};
 ghost use lib.ListN.{length};
-ghost use Rattle.counting.specs.Tests.{below};
-ghost use Rattle.matching.specs.Stock.{isPlan};
-ghost use Rattle.matching.specs.Matching.{Matching, pairsInOrder};
+ghost use Rattle.matching.specs.Matching.{Matching};
 ghost use Rattle.matching.specs.Row.{partnerIn};
 ghost use Rattle.counting.specs.Pairs.{zipPairs};
 ghost use Rattle.pairing.specs.Table.{stockOf, FitTable};
-ghost use Rattle.pairing.specs.Plan.{StockTable, Stepped, Largest, Sheet};
+ghost use Rattle.pairing.specs.Plan.{StockTable, Stepped, Largest, LargestFrom, PlanListed, Sheet};
 use crate::marks::marks_of;
 use crate::row::augment;
 use crate::row::pair_count;
+use crate::row::pairs_of;
 use crate::row::row_of;
 use crate::table::table;
 use search::answer::Answer;
 use search::answer::path_or_barrier;
 
 // One search: one pair more along the path found, or the table of reached nodes.
-fn improve(row: &mut [u8], us: &[u8], vs: &[u8], reached: &mut [usize]) -> bool
-    requires { ⌜ FitTable (length (now row)) (now us) (now vs) ⌝ }
-    requires { ⌜ Matching (zipPairs (now us) (now vs)) (partnerIn (now row)) ⌝ }
+fn improve(row: &mut [u8], firsts: &[u8], seconds: &[u8], reached: &mut [usize]) -> bool
+    requires { ⌜ FitTable (length (now row)) (now firsts) (now seconds) ⌝ }
+    requires { ⌜ Matching (zipPairs (now firsts) (now seconds)) (partnerIn (now row)) ⌝ }
     requires { ⌜ length (now reached) ≡ 2 * (length (now row) + 1) ⌝ }
-    ensures { λ r. ⌜ Stepped (zipPairs (now (us .entry)) (now (vs .entry))) (now (row .entry)) (now (row .exit)) (now (reached .exit)) r ⌝ }
+    ensures { λ r. ⌜ Stepped (zipPairs (now (firsts .entry)) (now (seconds .entry))) (now (row .entry)) (now (row .exit)) (now (reached .exit)) r ⌝ }
 {
     let mut tails = [0u8; 8192];
     let mut heads = [0u8; 8192];
@@ -31,7 +29,7 @@ fn improve(row: &mut [u8], us: &[u8], vs: &[u8], reached: &mut [usize]) -> bool
     let mut path = [0usize; 256];
     let n = row.len();
     let nodes = 2 * (n + 1);
-    let arcs = table(row, us, vs, &mut tails, &mut heads);
+    let arcs = table(row, firsts, seconds, &mut tails, &mut heads);
     let answer = path_or_barrier(
         n + 1,
         2 * n,
@@ -51,57 +49,130 @@ fn improve(row: &mut [u8], us: &[u8], vs: &[u8], reached: &mut [usize]) -> bool
 }
 
 // Searches until there is no path: as many as pairs are gained, and one.
-fn largest(row: &mut [u8], us: &[u8], vs: &[u8], reached: &mut [usize])
-    requires { ⌜ FitTable (length (now row)) (now us) (now vs) ⌝ }
-    requires { ⌜ Matching (zipPairs (now us) (now vs)) (partnerIn (now row)) ⌝ }
+fn largest(row: &mut [u8], firsts: &[u8], seconds: &[u8], reached: &mut [usize])
+    requires { ⌜ FitTable (length (now row)) (now firsts) (now seconds) ⌝ }
+    requires { ⌜ Matching (zipPairs (now firsts) (now seconds)) (partnerIn (now row)) ⌝ }
     requires { ⌜ length (now reached) ≡ 2 * (length (now row) + 1) ⌝ }
-    ensures { λ r. ⌜ Largest (zipPairs (now (us .entry)) (now (vs .entry))) (now (row .entry)) (now (row .exit)) (now (reached .exit)) ⌝ }
+    ensures { λ r. ⌜ Largest (zipPairs (now (firsts .entry)) (now (seconds .entry))) (now (row .entry)) (now (row .exit)) (now (reached .exit)) ⌝ }
 {
     let mut more = true;
     while more {
-        more = improve(row, us, vs, reached);
+        more = improve(row, firsts, seconds, reached);
     }
 }
 
-// The row of a plan: from the lit pairs ls, rs to a largest pairing of the fits us, vs that keeps every lit camera lit.
-pub fn plan(row: &mut [u8], us: &[u8], vs: &[u8], ls: &[u8], rs: &[u8])
-    requires { ⌜ StockTable (length (now row)) (now us) (now vs) (now ls) (now rs) ⌝ }
-    ensures { λ r. ⌜ isPlan (stockOf (length (now (row .entry))) (now (us .entry)) (now (vs .entry)) (now (ls .entry)) (now (rs .entry))) (pairsInOrder (partnerIn (now (row .exit))) (below (length (now (row .entry))))) ≡ true ⌝ }
+// From the row of the lit pairs to the row of a largest pairing, and the nodes that the last search reached.
+fn largest_from_lit(
+    row: &mut [u8],
+    firsts: &[u8],
+    seconds: &[u8],
+    lit_firsts: &[u8],
+    lit_seconds: &[u8],
+    reached: &mut [usize],
+)
+    requires { ⌜ StockTable (length (now row)) (now firsts) (now seconds) (now «lit_firsts») (now «lit_seconds») ⌝ }
+    requires { ⌜ length (now reached) ≡ 2 * (length (now row) + 1) ⌝ }
+    ensures { λ r. ⌜ LargestFrom (zipPairs (now (firsts .entry)) (now (seconds .entry))) (zipPairs (now («lit_firsts» .entry)) (now («lit_seconds» .entry))) (length (now (row .entry))) (now (row .exit)) (now (reached .exit)) ⌝ }
+{
+    row_of(row, lit_firsts, lit_seconds);
+    largest(row, firsts, seconds, reached);
+}
+
+// A plan, with the row lent.
+fn plan_in(
+    row: &mut [u8],
+    firsts: &[u8],
+    seconds: &[u8],
+    lit_firsts: &[u8],
+    lit_seconds: &[u8],
+    pair_firsts: &mut [u8],
+    pair_seconds: &mut [u8],
+) -> usize
+    requires { ⌜ StockTable (length (now row)) (now firsts) (now seconds) (now «lit_firsts») (now «lit_seconds») ⌝ }
+    requires { ⌜ (length (now row) ≤ length (now «pair_firsts»)) × (length (now row) ≤ length (now «pair_seconds»)) ⌝ }
+    ensures { λ r. ⌜ PlanListed (stockOf (length (now (row .entry))) (now (firsts .entry)) (now (seconds .entry)) (now («lit_firsts» .entry)) (now («lit_seconds» .entry))) (now («pair_firsts» .entry)) (now («pair_seconds» .entry)) (now («pair_firsts» .exit)) (now («pair_seconds» .exit)) r ⌝ }
 {
     let mut reached = [0usize; 256];
     let nodes = 2 * (row.len() + 1);
-    row_of(row, ls, rs);
-    largest(row, us, vs, &mut reached[..nodes]);
+    largest_from_lit(
+        row,
+        firsts,
+        seconds,
+        lit_firsts,
+        lit_seconds,
+        &mut reached[..nodes],
+    );
+    pairs_of(row, pair_firsts, pair_seconds)
 }
 
-// Every camera's mark, and the greatest number of pairs, with the table of reached nodes lent.
+// The pairs of a plan at the front of `pair_firsts` and `pair_seconds`: how many.
+pub fn plan(
+    cameras: usize,
+    firsts: &[u8],
+    seconds: &[u8],
+    lit_firsts: &[u8],
+    lit_seconds: &[u8],
+    pair_firsts: &mut [u8],
+    pair_seconds: &mut [u8],
+) -> usize
+    requires { ⌜ StockTable cameras (now firsts) (now seconds) (now «lit_firsts») (now «lit_seconds») ⌝ }
+    requires { ⌜ (cameras ≤ length (now «pair_firsts»)) × (cameras ≤ length (now «pair_seconds»)) ⌝ }
+    ensures { λ r. ⌜ PlanListed (stockOf cameras (now (firsts .entry)) (now (seconds .entry)) (now («lit_firsts» .entry)) (now («lit_seconds» .entry))) (now («pair_firsts» .entry)) (now («pair_seconds» .entry)) (now («pair_firsts» .exit)) (now («pair_seconds» .exit)) r ⌝ }
+{
+    let mut row = [0u8; 127];
+    plan_in(
+        &mut row[..cameras],
+        firsts,
+        seconds,
+        lit_firsts,
+        lit_seconds,
+        pair_firsts,
+        pair_seconds,
+    )
+}
+
+// A standing sheet, with the row and the table of reached nodes lent.
 fn sheet_in(
     row: &mut [u8],
-    us: &[u8],
-    vs: &[u8],
-    ls: &[u8],
-    rs: &[u8],
+    firsts: &[u8],
+    seconds: &[u8],
+    lit_firsts: &[u8],
+    lit_seconds: &[u8],
     reached: &mut [usize],
     marks: &mut [u8],
 ) -> usize
-    requires { ⌜ StockTable (length (now row)) (now us) (now vs) (now ls) (now rs) ⌝ }
+    requires { ⌜ StockTable (length (now row)) (now firsts) (now seconds) (now «lit_firsts») (now «lit_seconds») ⌝ }
     requires { ⌜ length (now reached) ≡ 2 * (length (now row) + 1) ⌝ }
     requires { ⌜ length (now marks) ≡ length (now row) ⌝ }
-    ensures { λ r. ⌜ Sheet (length (now (row .entry))) (zipPairs (now (us .entry)) (now (vs .entry))) (now (marks .exit)) r ⌝ }
+    ensures { λ r. ⌜ Sheet (length (now (row .entry))) (zipPairs (now (firsts .entry)) (now (seconds .entry))) (now (marks .exit)) r ⌝ }
 {
-    row_of(row, ls, rs);
-    largest(row, us, vs, reached);
+    largest_from_lit(row, firsts, seconds, lit_firsts, lit_seconds, reached);
     marks_of(reached, marks);
     pair_count(row)
 }
 
-// What a standing sheet says: every camera's mark, and the greatest number of pairs. The row is work space.
-pub fn sheet(row: &mut [u8], us: &[u8], vs: &[u8], ls: &[u8], rs: &[u8], marks: &mut [u8]) -> usize
-    requires { ⌜ StockTable (length (now row)) (now us) (now vs) (now ls) (now rs) ⌝ }
-    requires { ⌜ length (now marks) ≡ length (now row) ⌝ }
-    ensures { λ r. ⌜ Sheet (length (now (row .entry))) (zipPairs (now (us .entry)) (now (vs .entry))) (now (marks .exit)) r ⌝ }
+// Every camera's mark, and the greatest number of pairs.
+pub fn sheet(
+    firsts: &[u8],
+    seconds: &[u8],
+    lit_firsts: &[u8],
+    lit_seconds: &[u8],
+    marks: &mut [u8],
+) -> usize
+    requires { ⌜ StockTable (length (now marks)) (now firsts) (now seconds) (now «lit_firsts») (now «lit_seconds») ⌝ }
+    ensures { λ r. ⌜ Sheet (length (now (marks .entry))) (zipPairs (now (firsts .entry)) (now (seconds .entry))) (now (marks .exit)) r ⌝ }
 {
+    let mut row = [0u8; 127];
     let mut reached = [0usize; 256];
-    let nodes = 2 * (row.len() + 1);
-    sheet_in(row, us, vs, ls, rs, &mut reached[..nodes], marks)
+    let cameras = marks.len();
+    let nodes = 2 * (cameras + 1);
+    sheet_in(
+        &mut row[..cameras],
+        firsts,
+        seconds,
+        lit_firsts,
+        lit_seconds,
+        &mut reached[..nodes],
+        marks,
+    )
 }

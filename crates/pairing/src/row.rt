@@ -8,7 +8,7 @@ ghost use Rattle.matching.specs.Matching.{partner, pairOf, pairsInOrder};
 ghost use Rattle.matching.specs.Rotation.{rotateAlong, Rotates};
 ghost use Rattle.matching.specs.Row.{partnerIn, rotateRow};
 ghost use Rattle.counting.specs.Pairs.{zipPairs};
-ghost use Rattle.pairing.specs.Table.{PairTable, Wrote, Listed};
+ghost use Rattle.pairing.specs.Table.{PairTable, PairsWritten};
 ghost use Rattle.pairing.specs.Row.{tableGraph};
 
 // u, which is unlit, is lit with v; v's old partner becomes unlit.
@@ -51,56 +51,56 @@ fn clear_row(row: &mut [u8])
 }
 
 // The pairs lit, the last first, so that a camera's first pair counts.
-fn light_pairs(row: &mut [u8], us: &[u8], vs: &[u8])
-    requires { ⌜ PairTable (length (now row)) (now us) (now vs) ⌝ }
+fn light_pairs(row: &mut [u8], firsts: &[u8], seconds: &[u8])
+    requires { ⌜ PairTable (length (now row)) (now firsts) (now seconds) ⌝ }
     requires { ⌜ partnerIn (now row) ≡ partner [] ⌝ }
-    ensures { λ r. ⌜ partnerIn (now (row .exit)) ≡ partner (zipPairs (now (us .entry)) (now (vs .entry))) ⌝ }
+    ensures { λ r. ⌜ partnerIn (now (row .exit)) ≡ partner (zipPairs (now (firsts .entry)) (now (seconds .entry))) ⌝ }
 {
-    let mut i = us.len();
+    let mut i = firsts.len();
     while 0 < i {
         i -= 1;
-        let u = us[i];
-        let v = vs[i];
+        let u = firsts[i];
+        let v = seconds[i];
         row[v as usize] = u;
         row[u as usize] = v;
     }
 }
 
 // The row of a list of pairs.
-pub fn row_of(row: &mut [u8], us: &[u8], vs: &[u8])
+pub fn row_of(row: &mut [u8], firsts: &[u8], seconds: &[u8])
     requires { ⌜ length (now row) ≤ 127 ⌝ }
-    requires { ⌜ PairTable (length (now row)) (now us) (now vs) ⌝ }
-    ensures { λ r. ⌜ partnerIn (now (row .exit)) ≡ partner (zipPairs (now (us .entry)) (now (vs .entry))) ⌝ }
+    requires { ⌜ PairTable (length (now row)) (now firsts) (now seconds) ⌝ }
+    ensures { λ r. ⌜ partnerIn (now (row .exit)) ≡ partner (zipPairs (now (firsts .entry)) (now (seconds .entry))) ⌝ }
 {
     clear_row(row);
-    light_pairs(row, us, vs);
+    light_pairs(row, firsts, seconds);
 }
 
 // Camera u with its partner v, where that is the larger.
-fn put_pair(us: &mut [u8], vs: &mut [u8], at: usize, u: u8, v: u8) -> usize
-    requires { ⌜ at < length (now us) ⌝ }
-    requires { ⌜ at < length (now vs) ⌝ }
-    ensures { λ r. ⌜ Wrote (now (us .entry)) (now (vs .entry)) at (now (us .exit)) (now (vs .exit)) r (pairOf u v) ⌝ }
+fn put_pair(pair_firsts: &mut [u8], pair_seconds: &mut [u8], at: usize, u: u8, v: u8) -> usize
+    requires { ⌜ at < length (now «pair_firsts») ⌝ }
+    requires { ⌜ at < length (now «pair_seconds») ⌝ }
+    ensures { λ r. ⌜ PairsWritten (now («pair_firsts» .entry)) (now («pair_seconds» .entry)) at (now («pair_firsts» .exit)) (now («pair_seconds» .exit)) r (pairOf u v) ⌝ }
 {
     if u < v {
-        us[at] = u;
-        vs[at] = v;
+        pair_firsts[at] = u;
+        pair_seconds[at] = v;
         return at + 1;
     }
     at
 }
 
-// The pairs of a row in order: how many, in the front of us and vs.
-pub fn pairs_of(row: &[u8], us: &mut [u8], vs: &mut [u8]) -> usize
+// The pairs of a row in order, at the front of two slices: how many.
+pub fn pairs_of(row: &[u8], pair_firsts: &mut [u8], pair_seconds: &mut [u8]) -> usize
     requires { ⌜ length (now row) ≤ 127 ⌝ }
-    requires { ⌜ length (now row) ≤ length (now us) ⌝ }
-    requires { ⌜ length (now row) ≤ length (now vs) ⌝ }
-    ensures { λ r. ⌜ Listed (now (us .exit)) (now (vs .exit)) r (pairsInOrder (partnerIn (now (row .entry))) (below (length (now (row .entry))))) ⌝ }
+    requires { ⌜ length (now row) ≤ length (now «pair_firsts») ⌝ }
+    requires { ⌜ length (now row) ≤ length (now «pair_seconds») ⌝ }
+    ensures { λ r. ⌜ PairsWritten (now («pair_firsts» .entry)) (now («pair_seconds» .entry)) 0 (now («pair_firsts» .exit)) (now («pair_seconds» .exit)) r (pairsInOrder (partnerIn (now (row .entry))) (below (length (now (row .entry))))) ⌝ }
 {
     let mut at: usize = 0;
     let mut k: usize = 0;
     while k < row.len() {
-        at = put_pair(us, vs, at, k as u8, row[k]);
+        at = put_pair(pair_firsts, pair_seconds, at, k as u8, row[k]);
         k += 1;
     }
     at

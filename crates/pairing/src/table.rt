@@ -7,13 +7,13 @@ ghost use Rattle.counting.specs.Pairs.{pair, zipPairs};
 ghost use Rattle.matching.specs.Matching.{Matching};
 ghost use Rattle.matching.specs.Row.{partnerIn};
 ghost use Rattle.matching.specs.DoubledTable.{arcsOfCamera, cameraArcs, arcsOfFit, fitArcs};
-ghost use Rattle.pairing.specs.Table.{FitTable, Wrote, Doubled};
+ghost use Rattle.pairing.specs.Table.{FitTable, PairsWritten, Doubled};
 
 // An arc and its mate, at `at`.
 fn put(tails: &mut [u8], heads: &mut [u8], at: usize, a: u8, b: u8, c: u8, d: u8) -> usize
     requires { ⌜ at + 1 < length (now tails) ⌝ }
     requires { ⌜ at + 1 < length (now heads) ⌝ }
-    ensures { λ r. ⌜ Wrote (now (tails .entry)) (now (heads .entry)) at (now (tails .exit)) (now (heads .exit)) r (pair a b ∷ pair c d ∷ []) ⌝ }
+    ensures { λ r. ⌜ PairsWritten (now (tails .entry)) (now (heads .entry)) at (now (tails .exit)) (now (heads .exit)) r (pair a b ∷ pair c d ∷ []) ⌝ }
 {
     tails[at] = a;
     tails[at + 1] = c;
@@ -29,7 +29,7 @@ fn put_camera(n: u8, k: u8, w: u8, tails: &mut [u8], heads: &mut [u8], at: usize
     requires { ⌜ w < n ⌝ }
     requires { ⌜ at + 1 < length (now tails) ⌝ }
     requires { ⌜ at + 1 < length (now heads) ⌝ }
-    ensures { λ r. ⌜ Wrote (now (tails .entry)) (now (heads .entry)) at (now (tails .exit)) (now (heads .exit)) r (arcsOfCamera n k w) ⌝ }
+    ensures { λ r. ⌜ PairsWritten (now (tails .entry)) (now (heads .entry)) at (now (tails .exit)) (now (heads .exit)) r (arcsOfCamera n k w) ⌝ }
 {
     if w == k {
         return put(tails, heads, at, 2 * n, 2 * k, 2 * k + 1, 2 * n + 1);
@@ -46,7 +46,7 @@ fn put_fit(u: u8, v: u8, w: u8, tails: &mut [u8], heads: &mut [u8], at: usize) -
     requires { ⌜ v < 127 ⌝ }
     requires { ⌜ at + 1 < length (now tails) ⌝ }
     requires { ⌜ at + 1 < length (now heads) ⌝ }
-    ensures { λ r. ⌜ Wrote (now (tails .entry)) (now (heads .entry)) at (now (tails .exit)) (now (heads .exit)) r (arcsOfFit u v w) ⌝ }
+    ensures { λ r. ⌜ PairsWritten (now (tails .entry)) (now (heads .entry)) at (now (tails .exit)) (now (heads .exit)) r (arcsOfFit u v w) ⌝ }
 {
     if w == v {
         return at;
@@ -60,7 +60,7 @@ fn put_cameras(row: &[u8], tails: &mut [u8], heads: &mut [u8]) -> usize
     requires { ⌜ ((k : ℕ) → k < length (now row) → getD (now row) k 0 < length (now row)) ⌝ }
     requires { ⌜ 2 * length (now row) ≤ length (now tails) ⌝ }
     requires { ⌜ 2 * length (now row) ≤ length (now heads) ⌝ }
-    ensures { λ r. ⌜ Wrote (now (tails .entry)) (now (heads .entry)) 0 (now (tails .exit)) (now (heads .exit)) r (cameraArcs (length (now (row .entry))) (partnerIn (now (row .entry))) (below (length (now (row .entry)))) []) ⌝ }
+    ensures { λ r. ⌜ PairsWritten (now (tails .entry)) (now (heads .entry)) 0 (now (tails .exit)) (now (heads .exit)) r (cameraArcs (length (now (row .entry))) (partnerIn (now (row .entry))) (below (length (now (row .entry)))) []) ⌝ }
 {
     let n = row.len() as u8;
     let mut at: usize = 0;
@@ -75,35 +75,35 @@ fn put_cameras(row: &[u8], tails: &mut [u8], heads: &mut [u8]) -> usize
 // The arcs of every fit that is not lit.
 fn put_fits(
     row: &[u8],
-    us: &[u8],
-    vs: &[u8],
+    firsts: &[u8],
+    seconds: &[u8],
     tails: &mut [u8],
     heads: &mut [u8],
-    first: usize,
+    start: usize,
 ) -> usize
-    requires { ⌜ FitTable (length (now row)) (now us) (now vs) ⌝ }
-    requires { ⌜ first + 2 * length (now us) ≤ length (now tails) ⌝ }
-    requires { ⌜ first + 2 * length (now us) ≤ length (now heads) ⌝ }
-    ensures { λ r. ⌜ Wrote (now (tails .entry)) (now (heads .entry)) first (now (tails .exit)) (now (heads .exit)) r (fitArcs (partnerIn (now (row .entry))) (zipPairs (now (us .entry)) (now (vs .entry)))) ⌝ }
+    requires { ⌜ FitTable (length (now row)) (now firsts) (now seconds) ⌝ }
+    requires { ⌜ start + 2 * length (now firsts) ≤ length (now tails) ⌝ }
+    requires { ⌜ start + 2 * length (now firsts) ≤ length (now heads) ⌝ }
+    ensures { λ r. ⌜ PairsWritten (now (tails .entry)) (now (heads .entry)) start (now (tails .exit)) (now (heads .exit)) r (fitArcs (partnerIn (now (row .entry))) (zipPairs (now (firsts .entry)) (now (seconds .entry)))) ⌝ }
 {
-    let mut at = first;
+    let mut at = start;
     let mut i: usize = 0;
-    while i < us.len() {
-        let u = us[i];
-        at = put_fit(u, vs[i], row[u as usize], tails, heads, at);
+    while i < firsts.len() {
+        let u = firsts[i];
+        at = put_fit(u, seconds[i], row[u as usize], tails, heads, at);
         i += 1;
     }
     at
 }
 
 // The doubled table of the row: how many arcs, in the front of tails and heads.
-pub fn table(row: &[u8], us: &[u8], vs: &[u8], tails: &mut [u8], heads: &mut [u8]) -> usize
-    requires { ⌜ FitTable (length (now row)) (now us) (now vs) ⌝ }
-    requires { ⌜ Matching (zipPairs (now us) (now vs)) (partnerIn (now row)) ⌝ }
+pub fn table(row: &[u8], firsts: &[u8], seconds: &[u8], tails: &mut [u8], heads: &mut [u8]) -> usize
+    requires { ⌜ FitTable (length (now row)) (now firsts) (now seconds) ⌝ }
+    requires { ⌜ Matching (zipPairs (now firsts) (now seconds)) (partnerIn (now row)) ⌝ }
     requires { ⌜ 8192 ≤ length (now tails) ⌝ }
     requires { ⌜ 8192 ≤ length (now heads) ⌝ }
-    ensures { λ r. ⌜ Doubled (now (row .entry)) (zipPairs (now (us .entry)) (now (vs .entry))) (now (tails .exit)) (now (heads .exit)) r ⌝ }
+    ensures { λ r. ⌜ Doubled (now (row .entry)) (zipPairs (now (firsts .entry)) (now (seconds .entry))) (now (tails .entry)) (now (heads .entry)) (now (tails .exit)) (now (heads .exit)) r ⌝ }
 {
-    let first = put_cameras(row, tails, heads);
-    put_fits(row, us, vs, tails, heads, first)
+    let start = put_cameras(row, tails, heads);
+    put_fits(row, firsts, seconds, tails, heads, start)
 }

@@ -57,7 +57,7 @@ path-or-barrier-requires : tie.Need-path-or-barrier-requires
 path-or-barrier-requires c κs =
     let S = c .before .before .before .before .before .before .before .before .before .before .before .before .before .before .before in
     let few = S .pre .0 .cameras-few in (
-      arc-table (now (S .args .row)) (now (S .args .us)) (now (S .args .vs)) _ _ _ (S .pre .0) (S .pre .1 .0) (c .before .before .before .before .before .before .before .table .ensures),
+      arc-table (now (S .args .row)) (now (S .args .firsts)) (now (S .args .seconds)) (S .pre .0) (S .pre .1 .0) (c .before .before .before .before .before .before .before .table .ensures),
       (omega (arith, S .pre .1 .1), length-take-le _ _ (omega arith), omega arith),
     )
 
@@ -93,8 +93,8 @@ augment-requires c κs =
     let S = c .before .before .before .before .before .before .before .before .before .before .before .before .before .before .before .before .before .before .before .before .before .before .before .before .before .before .before in
     let A = path-answer _ _ _ _ _ _ (c .before .before .before .before .before .answer .given .1) (c .before .before .before .before .before .before .before .before .before .before .before .path-or-barrier .ensures) in
     let D = c .before .before .before .before .before .before .before .before .before .before .before .before .before .before .before .before .before .before .before .table .ensures in (
-      as-long (now (S .args .row)) (now (S .args .us)) (now (S .args .vs)) _ _ _ (S .pre .0) (S .pre .1 .0) D,
-      path-rotates (now (S .args .row)) (now (S .args .us)) (now (S .args .vs)) _ _ _ (S .pre .0) (S .pre .1 .0) D _ (A .1),
+      as-long (now (S .args .row)) (now (S .args .firsts)) (now (S .args .seconds)) (S .pre .0) (S .pre .1 .0) D,
+      path-rotates (now (S .args .row)) (now (S .args .firsts)) (now (S .args .seconds)) (S .pre .0) (S .pre .1 .0) D _ (A .1),
     )
 
 enum-told : tie.Need-enum-told
@@ -110,7 +110,7 @@ returns : tie.Need-returns
 returns c =
     let S = c .before .before .before .before .before .before .before .before .before .before .before .before .before .before .before .before .before .before .before .before .before .before .before .before .before .before .before .before .before .before in
     let A = path-answer _ _ _ _ _ _ (c .before .before .before .before .before .before .before .before .answer .given .1) (c .before .before .before .before .before .before .before .before .before .before .before .before .before .before .path-or-barrier .ensures) in
-    path-stepped (now (S .args .row)) (now (S .args .us)) (now (S .args .vs)) _ _ _ (S .pre .0) (S .pre .1 .0) (c .before .before .before .before .before .before .before .before .before .before .before .before .before .before .before .before .before .before .before .before .before .before .table .ensures) _ (A .1) _ _ (c .before .before .augment .ensures)
+    path-stepped (now (S .args .row)) (now (S .args .firsts)) (now (S .args .seconds)) (S .pre .0) (S .pre .1 .0) (c .before .before .before .before .before .before .before .before .before .before .before .before .before .before .before .before .before .before .before .before .before .before .table .ensures) _ (A .1) _ _ (c .before .before .augment .ensures)
 
 same-length-3 : tie.Need-same-length-3
 same-length-3 c = search needs
@@ -122,7 +122,7 @@ returns-2 : tie.Need-returns-2
 returns-2 c =
     let S = c .before .before .before .before .before .before .before .before .before .before .before .before .before .before .before .before .before .before .before .before .before .before in
     let A = barrier-answer _ _ _ _ _ (c .enum-told .given .1) (c .before .before .before .before .before .before .path-or-barrier .ensures) in
-    barrier-stepped (now (S .args .row)) (now (S .args .us)) (now (S .args .vs)) _ _ _ (S .pre .0) (S .pre .1 .0) (c .before .before .before .before .before .before .before .before .before .before .before .before .before .before .table .ensures) _ (A .0) (A .1)
+    barrier-stepped (now (S .args .row)) (now (S .args .firsts)) (now (S .args .seconds)) (S .pre .0) (S .pre .1 .0) (c .before .before .before .before .before .before .before .before .before .before .before .before .before .before .table .ensures) _ (A .0) (A .1)
 
 pub improve-spec : {M : Type 1} → statement M
 improve-spec =

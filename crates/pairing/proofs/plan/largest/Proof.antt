@@ -17,11 +17,11 @@ use Rattle.pairing.proofs.plan.largest.Statement.{statement}
 use Rattle.pairing.proofs.plan.largest.Tie as tie
 
 abbrev Inv-loop : tie.InvT-loop
-Inv-loop row₀ us vs reached₀ more₀ row reached more =
-    (length reached ≡ length reached₀) × Improving (zipPairs us vs) row₀ row × (more ≡ false → Ended (zipPairs us vs) row reached)
+Inv-loop row₀ firsts seconds reached₀ more₀ row reached more =
+    (length reached ≡ length reached₀) × Improving (zipPairs firsts seconds) row₀ row × (more ≡ false → Ended (zipPairs firsts seconds) row reached)
 
 abbrev μ-loop : tie.MeasureT-loop
-μ-loop row₀ us vs reached₀ more₀ row reached more = pick more 1 0 + length (unlit (length row) (partnerIn row))
+μ-loop row₀ firsts seconds reached₀ more₀ row reached more = pick more 1 0 + length (unlit (length row) (partnerIn row))
 
 loop-holds : tie.Need-loop-holds Inv-loop μ-loop
 loop-holds c = (refl, improving-start _ _ (c .before .before .before .before .pre .1 .0), λ e. true-false refl e)
@@ -32,7 +32,7 @@ improve-requires c κs =
     let l = c .before .before .before .loop in
     let I = l .inv .1 in
     let n = I .long in (
-      subst (λ (m : ℕ). FitTable m (now (S .args .us)) (now (S .args .vs))) (sym n) (S .pre .0),
+      subst (λ (m : ℕ). FitTable m (now (S .args .firsts)) (now (S .args .seconds))) (sym n) (S .pre .0),
       (I .matching, omega (arith, l .inv .0, S .pre .1 .1)),
     )
 

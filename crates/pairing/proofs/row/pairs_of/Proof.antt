@@ -1,31 +1,30 @@
 -- Camera by camera: what is written and what is left are all pairs.
 use mathlib.Core.Path.{_≡_, refl, _∙_}
-use mathlib.Core.List.{_++_}
-use Prim.Native.Nat.{_+_, _-_, _≤_}
+use Prim.Native.Nat.{_-_, _≤_}
 use native.Mathlib.Omega.{arith}
 use lib.ListN.{length, getD}
 use denote.Ref.{now}
 use borrow.Author.Needs.{needs}
 use Rattle.counting.specs.Tests.{below}
-use Rattle.matching.specs.Matching.{pairOf, pairsInOrder}
+use Rattle.matching.specs.Matching.{pairsInOrder}
 use Rattle.matching.specs.Row.{partnerIn}
-use Rattle.pairing.specs.Table.{written, Writing}
+use Rattle.pairing.specs.Table.{WritingPairs}
 use Rattle.pairing.specs.Row.{pairsLeft}
-use Rattle.pairing.proofs.Writing.{writing-start, writing-more, writing-done, listed}
+use Rattle.pairing.proofs.Writing.{writing-start, writing-more, writing-done}
 use Rattle.pairing.proofs.Lighting.{pair-few, pairs-left-first, pairs-left-none, pairs-left-all}
 use Rattle.pairing.proofs.row.pairs_of.Statement.{statement}
 use Rattle.pairing.proofs.row.pairs_of.Tie as tie
 
 abbrev Inv-loop : tie.InvT-loop
-Inv-loop row us₀ vs₀ at₀ k₀ us vs at k =
-    (k ≤ length row) × (length us ≡ length us₀) × (length vs ≡ length vs₀) × Writing us vs at (pairsLeft row k) (written us₀ vs₀ 0 ++ pairsInOrder (partnerIn row) (below (length row))) k
+Inv-loop row pairFirsts₀ pairSeconds₀ at₀ k₀ pairFirsts pairSeconds at k =
+    (k ≤ length row) × (length pairFirsts ≡ length pairFirsts₀) × (length pairSeconds ≡ length pairSeconds₀) × WritingPairs pairFirsts₀ pairSeconds₀ 0 pairFirsts pairSeconds at (pairsLeft row k) (pairsInOrder (partnerIn row) (below (length row))) k
 
 abbrev μ-loop : tie.MeasureT-loop
-μ-loop row us₀ vs₀ at₀ k₀ us vs at k = length row - k
+μ-loop row pairFirsts₀ pairSeconds₀ at₀ k₀ pairFirsts pairSeconds at k = length row - k
 
 loop-holds : tie.Need-loop-holds Inv-loop μ-loop
 loop-holds c =
-    (omega arith, refl, refl, writing-start (now (c .before .before .before .args .us)) (now (c .before .before .before .args .vs)) 0 (pairsLeft (now (c .before .before .before .args .row)) 0) _ 0 (pairs-left-all (now (c .before .before .before .args .row))) (omega arith))
+    (omega arith, refl, refl, writing-start (now (c .before .before .before .args .pair-firsts)) (now (c .before .before .before .args .pair-seconds)) 0 (pairs-left-all (now (c .before .before .before .args .row))) (omega arith))
 
 cast-put-pair : tie.Need-cast-put-pair Inv-loop μ-loop
 cast-put-pair c = omega (arith, c .before .before .before .before .before .before .before .pre .0)
@@ -53,7 +52,7 @@ loop-again c =
       omega arith,
       r .kept .0 ∙ l .inv .1,
       r .kept .1 .0 ∙ l .inv .2,
-      writing-more _ _ _ _ _ (l .k) _ _ _ (pairOf (l .k) (getD row (l .k) 0)) (pairsLeft row (l .k + 1)) (l .k + 1) (l .inv .3) (r .ensures)
+      writing-more (l .inv .3) (r .ensures)
           (pairs-left-first row (l .k) (omega arith)) (omega (arith, pair-few (l .k) (getD row (l .k) 0))),
     )
 
@@ -68,8 +67,7 @@ returns c =
     let a = c .before .before .before .before .before .args in
     let l = c .before .loop in
     let row = now (a .row) in
-    listed _ _ (now (a .us)) (now (a .vs)) _ _ (writing-done (now (a .us)) (now (a .vs)) 0 _ _ _ (pairsLeft row (l .k)) _ (l .k) (omega arith) (omega arith)
-    (omega (arith, l .inv .3 .bound, l .inv .1, c .before .before .before .before .before .pre .1 .0)) (omega (arith, l .inv .3 .bound, l .inv .2, c .before .before .before .before .before .pre .1 .1)) (l .inv .3) (pairs-left-none row (l .k) (omega arith)))
+    writing-done (l .inv .3) (pairs-left-none row (l .k) (omega arith))
 
 pub pairs-of-spec : {M : Type 1} → statement M
 pairs-of-spec =

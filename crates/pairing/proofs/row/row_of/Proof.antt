@@ -13,7 +13,7 @@ clear-row-requires c κs = search needs
 light-pairs-requires : tie.Need-light-pairs-requires
 light-pairs-requires c κs =
     let S = c .before .before .before .before .before .before .before .before in
-    (subst (λ (n : ℕ). PairTable n (now (S .args .us)) (now (S .args .vs))) (sym (c .before .before .before .clear-row .kept .0)) (S .pre .1), c .before .before .before .clear-row .ensures)
+    (subst (λ (n : ℕ). PairTable n (now (S .args .firsts)) (now (S .args .seconds))) (sym (c .before .before .before .clear-row .kept .0)) (S .pre .1), c .before .before .before .clear-row .ensures)
 
 same-length : tie.Need-same-length
 same-length c = search needs

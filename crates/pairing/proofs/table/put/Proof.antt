@@ -34,7 +34,7 @@ same-length-2 c = search needs
 
 returns : tie.Need-returns
 returns c =
-    put-two (now (c .args .tails)) (now (c .args .heads)) (c .args .at) (c .args .a) (c .args .b) (c .args .c) (c .args .d) (c .pre .0) (c .pre .1)
+    put-two (now (c .args .tails)) (now (c .args .heads)) (c .args .at) (c .args .a) (c .args .b) (c .args .c) (c .args .d)
 
 pub put-spec : {M : Type 1} → statement M
 put-spec =

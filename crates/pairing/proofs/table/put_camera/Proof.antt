@@ -6,7 +6,7 @@ use denote.Ref.{now}
 use borrow.Author.Tests.{eq-eqb, ne-eqb, lt-ltb, le-ltb}
 use borrow.Author.Needs.{needs}
 use Rattle.matching.specs.DoubledTable.{arcsOfCamera}
-use Rattle.pairing.proofs.Writing.{wrote-none, wrote-as}
+use Rattle.pairing.proofs.Writing.{written-none, written-as}
 use Rattle.pairing.proofs.table.put_camera.Statement.{statement}
 use Rattle.pairing.proofs.table.put_camera.Tie as tie
 
@@ -40,7 +40,7 @@ same-length-2 c = search needs
 returns : tie.Need-returns
 returns c =
     let a = c .before .before .before .before .before .before .before .before .before .before .args in
-    wrote-as _ _ _ _ _ _ _ (arcsOfCamera (a .n) (a .k) (a .w)) (rw (eq-eqb (a .w) (a .k) (omega arith))) (c .before .before .before .before .put .ensures)
+    written-as {qs = arcsOfCamera (a .n) (a .k) (a .w)} (rw (eq-eqb (a .w) (a .k) (omega arith))) (c .before .before .before .before .put .ensures)
 
 mul-put-5 : tie.Need-mul-put-5
 mul-put-5 c = search needs
@@ -72,13 +72,13 @@ same-length-4 c = search needs
 returns-2 : tie.Need-returns-2
 returns-2 c =
     let a = c .before .before .before .before .before .before .before .before .before .before .before .args in
-    wrote-as _ _ _ _ _ _ _ (arcsOfCamera (a .n) (a .k) (a .w)) (rw (ne-eqb (a .w) (a .k) (omega arith), lt-ltb (a .k) (a .w) (omega arith))) (c .before .before .before .before .put2 .ensures)
+    written-as {qs = arcsOfCamera (a .n) (a .k) (a .w)} (rw (ne-eqb (a .w) (a .k) (omega arith), lt-ltb (a .k) (a .w) (omega arith))) (c .before .before .before .before .put2 .ensures)
 
 returns-3 : tie.Need-returns-3
 returns-3 c =
     let a = c .before .before .before .before .args in
     let none : [] ≡ arcsOfCamera (a .n) (a .k) (a .w) = rw (ne-eqb (a .w) (a .k) (omega arith), le-ltb (a .k) (a .w) (omega arith)) in
-    wrote-as _ _ _ _ _ _ _ (arcsOfCamera (a .n) (a .k) (a .w)) none (wrote-none (now (a .tails)) (now (a .heads)) (a .at))
+    written-as none (written-none (now (a .tails)) (now (a .heads)) (a .at))
 
 pub put-camera-spec : {M : Type 1} → statement M
 put-camera-spec =

@@ -1,16 +1,16 @@
 -- Camera by camera: what is written and what is left are the arcs of every camera.
 use mathlib.Core.Path.{_≡_, refl, _∙_}
-use mathlib.Core.List.{[], _++_}
-use Prim.Native.Nat.{_+_, _-_, _*_, _≤_}
+use mathlib.Core.List.{[]}
+use Prim.Native.Nat.{_-_, _*_, _≤_}
 use native.Mathlib.Omega.{arith}
 use lib.ListN.{length, getD}
 use denote.Ref.{now}
 use borrow.Author.Needs.{needs}
 use Rattle.counting.specs.Tests.{below}
 use Rattle.matching.specs.Row.{partnerIn}
-use Rattle.matching.specs.DoubledTable.{arcsOfCamera, cameraArcs}
+use Rattle.matching.specs.DoubledTable.{cameraArcs}
 use Rattle.matching.proofs.DoubledTable.{camera-arcs-few}
-use Rattle.pairing.specs.Table.{written, Writing, camerasLeft}
+use Rattle.pairing.specs.Table.{WritingPairs, camerasLeft}
 use Rattle.pairing.proofs.Writing.{writing-start, writing-more, writing-done}
 use Rattle.pairing.proofs.Doubling.{cameras-left-first, cameras-left-none, cameras-left-all}
 use Rattle.pairing.proofs.table.put_cameras.Statement.{statement}
@@ -18,7 +18,7 @@ use Rattle.pairing.proofs.table.put_cameras.Tie as tie
 
 abbrev Inv-loop : tie.InvT-loop
 Inv-loop row tails₀ heads₀ n at₀ k₀ tails heads at k =
-    (k ≤ length row) × (length tails ≡ length tails₀) × (length heads ≡ length heads₀) × Writing tails heads at (camerasLeft row k) (written tails₀ heads₀ 0 ++ cameraArcs (length row) (partnerIn row) (below (length row)) []) (2 * k)
+    (k ≤ length row) × (length tails ≡ length tails₀) × (length heads ≡ length heads₀) × WritingPairs tails₀ heads₀ 0 tails heads at (camerasLeft row k) (cameraArcs (length row) (partnerIn row) (below (length row)) []) (2 * k)
 
 abbrev μ-loop : tie.MeasureT-loop
 μ-loop row tails₀ heads₀ n at₀ k₀ tails heads at k = length row - k
@@ -28,7 +28,7 @@ cast-n c = search needs
 
 loop-holds : tie.Need-loop-holds Inv-loop μ-loop
 loop-holds c =
-    (omega arith, refl, refl, writing-start (now (c .before .before .before .args .tails)) (now (c .before .before .before .args .heads)) 0 (camerasLeft (now (c .before .before .before .args .row)) 0) _ 0 (cameras-left-all (now (c .before .before .before .args .row))) (omega arith))
+    (omega arith, refl, refl, writing-start (now (c .before .before .before .args .tails)) (now (c .before .before .before .args .heads)) 0 (cameras-left-all (now (c .before .before .before .args .row))) (omega arith))
 
 cast-put-camera : tie.Need-cast-put-camera Inv-loop μ-loop
 cast-put-camera c = search needs
@@ -56,7 +56,7 @@ loop-again c =
       omega arith,
       r .kept .1 .1 .1 .0 ∙ l .inv .1,
       r .kept .1 .1 .1 .1 .0 ∙ l .inv .2,
-      writing-more _ _ _ _ _ (2 * l .k) _ _ _ (arcsOfCamera (length row) (l .k) (getD row (l .k) 0)) (camerasLeft row (l .k + 1)) (2 * (l .k + 1)) (l .inv .3) (r .ensures)
+      writing-more (l .inv .3) (r .ensures)
           (cameras-left-first row (l .k) (omega arith)) (omega (arith, camera-arcs-few (length row) (l .k) (getD row (l .k) 0))),
     )
 
@@ -71,8 +71,7 @@ returns c =
     let a = c .before .before .before .before .before .args in
     let l = c .before .loop in
     let row = now (a .row) in
-    writing-done (now (a .tails)) (now (a .heads)) 0 _ _ _ (camerasLeft row (l .k)) _ (2 * l .k) (omega arith) (omega arith) (omega (arith, l .inv .3 .bound, l .inv .1)) (omega (arith, l .inv .3 .bound, l .inv .2)) (l .inv .3)
-    (cameras-left-none row (l .k) (omega arith))
+    writing-done (l .inv .3) (cameras-left-none row (l .k) (omega arith))
 
 pub put-cameras-spec : {M : Type 1} → statement M
 put-cameras-spec =

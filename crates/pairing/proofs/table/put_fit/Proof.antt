@@ -6,7 +6,7 @@ use denote.Ref.{now}
 use borrow.Author.Tests.{eq-eqb, ne-eqb}
 use borrow.Author.Needs.{needs}
 use Rattle.matching.specs.DoubledTable.{arcsOfFit}
-use Rattle.pairing.proofs.Writing.{wrote-none, wrote-as}
+use Rattle.pairing.proofs.Writing.{written-none, written-as}
 use Rattle.pairing.proofs.table.put_fit.Statement.{statement}
 use Rattle.pairing.proofs.table.put_fit.Tie as tie
 
@@ -14,7 +14,7 @@ returns : tie.Need-returns
 returns c =
     let a = c .before .before .before .args in
     let none : [] ≡ arcsOfFit (a .u) (a .v) (a .w) = rw (eq-eqb (a .w) (a .v) (omega arith)) in
-    wrote-as _ _ _ _ _ _ _ (arcsOfFit (a .u) (a .v) (a .w)) none (wrote-none (now (a .tails)) (now (a .heads)) (a .at))
+    written-as none (written-none (now (a .tails)) (now (a .heads)) (a .at))
 
 mul-put : tie.Need-mul-put
 mul-put c = search needs
@@ -46,7 +46,7 @@ same-length-2 c = search needs
 returns-2 : tie.Need-returns-2
 returns-2 c =
     let a = c .before .before .before .before .before .before .before .before .before .before .args in
-    wrote-as _ _ _ _ _ _ _ (arcsOfFit (a .u) (a .v) (a .w)) (rw (ne-eqb (a .w) (a .v) (omega arith))) (c .before .before .before .before .put .ensures)
+    written-as {qs = arcsOfFit (a .u) (a .v) (a .w)} (rw (ne-eqb (a .w) (a .v) (omega arith))) (c .before .before .before .before .put .ensures)
 
 pub put-fit-spec : {M : Type 1} → statement M
 put-fit-spec =

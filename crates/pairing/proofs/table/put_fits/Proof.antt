@@ -1,31 +1,31 @@
 -- Fit by fit: what is written and what is left are the arcs of every fit.
 use mathlib.Core.Path.{_≡_, refl, _∙_}
-use mathlib.Core.List.{_++_}
 use Prim.Native.Nat.{_+_, _-_, _*_, _≤_}
 use native.Mathlib.Omega.{arith}
 use lib.ListN.{length, getD}
 use denote.Ref.{now}
 use borrow.Author.Needs.{needs}
 use Rattle.counting.specs.Pairs.{zipPairs}
-use Rattle.matching.specs.DoubledTable.{arcsOfFit, fitArcs}
+use Rattle.matching.specs.DoubledTable.{fitArcs}
 use Rattle.matching.specs.Row.{partnerIn}
 use Rattle.matching.proofs.DoubledTable.{fit-arcs-few}
-use Rattle.pairing.specs.Table.{written, Writing, fitsLeft}
+use Rattle.pairing.specs.Table.{WritingPairs, fitsLeft}
 use Rattle.pairing.proofs.Writing.{writing-start, writing-more, writing-done}
 use Rattle.pairing.proofs.Doubling.{fit-first, fit-second, fits-left-first, fits-left-none}
 use Rattle.pairing.proofs.table.put_fits.Statement.{statement}
 use Rattle.pairing.proofs.table.put_fits.Tie as tie
 
 abbrev Inv-loop : tie.InvT-loop
-Inv-loop row us vs tails₀ heads₀ first at₀ i₀ tails heads at i =
-    (i ≤ length us) × (length tails ≡ length tails₀) × (length heads ≡ length heads₀) × Writing tails heads at (fitsLeft row us vs i) (written tails₀ heads₀ first ++ fitArcs (partnerIn row) (zipPairs us vs)) (first + 2 * i)
+Inv-loop row firsts seconds tails₀ heads₀ start at₀ i₀ tails heads at i =
+    (i ≤ length firsts) × (length tails ≡ length tails₀) × (length heads ≡ length heads₀) × WritingPairs tails₀ heads₀ start tails heads at (fitsLeft row firsts seconds i) (fitArcs (partnerIn row) (zipPairs firsts seconds)) (start + 2 * i)
 
 abbrev μ-loop : tie.MeasureT-loop
-μ-loop row us vs tails₀ heads₀ first at₀ i₀ tails heads at i = length us - i
+μ-loop row firsts seconds tails₀ heads₀ start at₀ i₀ tails heads at i = length firsts - i
 
 loop-holds : tie.Need-loop-holds Inv-loop μ-loop
 loop-holds c =
-    (omega arith, refl, refl, writing-start (now (c .before .before .before .before .before .args .tails)) (now (c .before .before .before .before .before .args .heads)) (c .before .before .before .before .before .args .first) (fitsLeft (now (c .before .before .before .before .before .args .row)) (now (c .before .before .before .before .before .args .us)) (now (c .before .before .before .before .before .args .vs)) 0) _ (c .before .before .before .before .before .args .first + 2 * 0) refl (omega arith))
+    let a = c .before .before .before .before .before .args in
+    (omega arith, refl, refl, writing-start (now (a .tails)) (now (a .heads)) (a .start) refl (omega arith))
 
 shared-slice-read-u : tie.Need-shared-slice-read-u Inv-loop μ-loop
 shared-slice-read-u c = search needs
@@ -66,17 +66,17 @@ loop-again c =
     let l = c .before .before .before .before .before .before .before .before .before .before .before .loop in
     let r = c .before .before .before .before .put-fit in
     let row = now (a .row) in
-    let us = now (a .us) in
-    let vs = now (a .vs) in
-    let u = getD us (l .i) 0 in
+    let firsts = now (a .firsts) in
+    let seconds = now (a .seconds) in
+    let u = getD firsts (l .i) 0 in
     let w = getD row u 0 in
     let x = fit-first _ _ _ (S .pre .0) (l .i) (omega arith) in
     let y = fit-second _ _ _ (S .pre .0) (l .i) (omega arith) in (
       omega arith,
       r .kept .1 .1 .1 .0 ∙ l .inv .1,
       r .kept .1 .1 .1 .1 .0 ∙ l .inv .2,
-      writing-more _ _ _ _ _ (a .first + 2 * l .i) _ _ _ (arcsOfFit u (getD vs (l .i) 0) w) (fitsLeft row us vs (l .i + 1)) (a .first + 2 * (l .i + 1)) (l .inv .3) (r .ensures)
-          (fits-left-first row us vs (l .i) (S .pre .0 .as-long) (omega arith) (omega arith)) (omega (arith, fit-arcs-few u (getD vs (l .i) 0) w)),
+      writing-more (l .inv .3) (r .ensures)
+          (fits-left-first row firsts seconds (l .i) (S .pre .0 .as-long) (omega arith) (omega arith)) (omega (arith, fit-arcs-few u (getD seconds (l .i) 0) w)),
     )
 
 same-length : tie.Need-same-length Inv-loop μ-loop
@@ -90,8 +90,7 @@ returns c =
     let S = c .before .before .before .before .before .before .before in
     let a = S .args in
     let l = c .before .loop in
-    writing-done (now (a .tails)) (now (a .heads)) (a .first) _ _ _ (fitsLeft (now (a .row)) (now (a .us)) (now (a .vs)) (l .i)) _ (a .first + 2 * l .i)
-    (omega (arith, S .pre .1 .0)) (omega (arith, S .pre .1 .1)) (omega (arith, l .inv .3 .bound, l .inv .1, S .pre .1 .0)) (omega (arith, l .inv .3 .bound, l .inv .2, S .pre .1 .1)) (l .inv .3) (fits-left-none (now (a .row)) (now (a .us)) (now (a .vs)) (l .i) (S .pre .0 .as-long) (omega arith))
+    writing-done (l .inv .3) (fits-left-none (now (a .row)) (now (a .firsts)) (now (a .seconds)) (l .i) (S .pre .0 .as-long) (omega arith))
 
 pub put-fits-spec : {M : Type 1} → statement M
 put-fits-spec =

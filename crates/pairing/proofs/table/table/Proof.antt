@@ -12,7 +12,7 @@ put-cameras-requires c κs =
     let S = c .before .before .before .before .before .before .before in
     let T = S .pre .0 in
     let few = T .cameras-few in
-    (few, (row-low (now (S .args .row)) (now (S .args .us)) (now (S .args .vs)) T (S .pre .1 .0), (omega (arith, S .pre .1 .1 .0), omega (arith, S .pre .1 .1 .1))))
+    (few, (row-low (now (S .args .row)) (now (S .args .firsts)) (now (S .args .seconds)) T (S .pre .1 .0), (omega (arith, S .pre .1 .1 .0), omega (arith, S .pre .1 .1 .1))))
 
 put-fits-requires : tie.Need-put-fits-requires
 put-fits-requires c κs =
@@ -21,7 +21,7 @@ put-fits-requires c κs =
     let r = c .before .before .before .before .before .before .put-cameras in
     let few = T .cameras-few in
     let fits = T .fits-few in
-    let size = cameras-size (now (S .args .row)) _ _ _ _ _ (r .ensures) in
+    let size = cameras-size (now (S .args .row)) (r .ensures) in
     (T, (omega (arith, S .pre .1 .1 .0, r .kept .1 .0), omega (arith, S .pre .1 .1 .1, r .kept .1 .1 .0)))
 
 same-length : tie.Need-same-length
@@ -36,7 +36,7 @@ returns c =
     let a = S .args in
     let r = c .before .before .before .before .before .before .before .before .before .before .before .put-cameras in
     let t = c .before .before .before .before .put-fits in
-    doubled (now (a .row)) (now (a .us)) (now (a .vs)) (S .pre .0) (S .pre .1 .0) _ _ _ _ _ _ _ _ (t .kept .1 .1 .1 .0 ∙ r .kept .1 .0) (t .kept .1 .1 .1 .1 .0 ∙ r .kept .1 .1 .0)
+    doubled (now (a .row)) (now (a .firsts)) (now (a .seconds)) (S .pre .0) (S .pre .1 .0) (t .kept .1 .1 .1 .0 ∙ r .kept .1 .0) (t .kept .1 .1 .1 .1 .0 ∙ r .kept .1 .1 .0)
     (S .pre .1 .1 .0) (S .pre .1 .1 .1) (r .ensures) (t .ensures)
 
 pub table-spec : {M : Type 1} → statement M

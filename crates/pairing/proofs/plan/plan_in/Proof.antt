@@ -1,0 +1,58 @@
+-- The pairs of the largest row, in order.
+use mathlib.Core.Path.{sym}
+use lib.ListN.{length}
+use denote.Ref.{now}
+use borrow.Author.Needs.{needs}
+use Rattle.pairing.proofs.Searching.{reached-front}
+use Rattle.pairing.proofs.Improving.{plan-listed}
+use Rattle.pairing.proofs.plan.plan_in.Statement.{statement}
+use Rattle.pairing.proofs.plan.plan_in.Tie as tie
+
+add-nodes : tie.Need-add-nodes
+add-nodes c = search needs
+
+mul-nodes : tie.Need-mul-nodes
+mul-nodes c = search needs
+
+array-borrow-prefix-reached : tie.Need-array-borrow-prefix-reached
+array-borrow-prefix-reached c = search needs
+
+slice-aggregate-largest-from-lit : tie.Need-slice-aggregate-largest-from-lit
+slice-aggregate-largest-from-lit c = let S = c .before .before .before .before .before .before .before .before .before in sym (reached-front (length (now (S .args .row))) (S .pre .0 .cameras-few))
+
+largest-from-lit-requires : tie.Need-largest-from-lit-requires
+largest-from-lit-requires c κs =
+    let S = c .before .before .before .before .before .before .before .before .before in
+    (S .pre .0, reached-front (length (now (S .args .row))) (S .pre .0 .cameras-few))
+
+pairs-of-requires : tie.Need-pairs-of-requires
+pairs-of-requires c κs = search needs
+
+same-length : tie.Need-same-length
+same-length c = search needs
+
+same-length-2 : tie.Need-same-length-2
+same-length-2 c = search needs
+
+same-length-3 : tie.Need-same-length-3
+same-length-3 c = search needs
+
+returns : tie.Need-returns
+returns c =
+    let r = c .before .before .before .before .pairs-of in
+    plan-listed _ _ _ _ _ (c .before .before .before .before .before .before .before .before .before .before .before .before .before .before .before .before .before .before .before .before .before .pre .0) (c .before .before .before .before .before .before .before .before .before .before .before .largest-from-lit .ensures) (r .ensures)
+
+pub plan-in-spec : {M : Type 1} → statement M
+plan-in-spec =
+    tie.close
+    (tie.spec
+    add-nodes
+    mul-nodes
+    array-borrow-prefix-reached
+    slice-aggregate-largest-from-lit
+    largest-from-lit-requires
+    pairs-of-requires
+    same-length
+    same-length-2
+    same-length-3
+    returns)
