@@ -1,9 +1,9 @@
 -- The doubled table of a row as a search sees it, and what each of the search's answers gives.
 --   row-front, reached-front        the front of a local table: a row of cameras, the nodes of its doubled table
---   path-answer, barrier-answer     what an answer says, by its cases
+--   path-answer, none-answer        what an answer says, by its cases
 --   as-long, arc-table              the tables lent are an arc table
 --   path-rotates, path-stepped      a wanted path can be followed, and gives one pair more
---   barrier-stepped                 no path: the reachable nodes are told
+--   none-stepped                    no path: the reachable nodes are told
 use mathlib.Core.Path.{_≡_, refl, sym, ap, subst, _∙_}
 use mathlib.Core.Bool.{true, false}
 use mathlib.Core.List.{List}
@@ -14,12 +14,13 @@ use lib.ListN.{length, take, drop, replicate, length-replicate}
 use lib.Seq.{length-take-le}
 use Rattle.counting.specs.Pairs.{Pair, zipPairs}
 use Rattle.counting.proofs.Booleans.{true-false}
-use Rattle.skew.specs.Graph.{Graph, nodes, isWanted, isReachable, hasPath, canonical}
+use Rattle.skew.specs.Graph.{Graph, nodes, isWanted, isReachable, hasPath}
 use Rattle.skew.specs.Paths.{WellFormed}
 use Rattle.arcs.specs.Table.{graphOf, ArcTable}
-use Rattle.search.specs.Answer.{Answered}
+use Rattle.search.specs.Answer.{Searched}
 use Rattle.search.specs.declared.answer.Answer.{Answer}
-use Rattle.search.specs.declared.answer.Answer.the-variants.{Path, Barrier}
+use Rattle.search.specs.declared.answer.Answer.the-variants.{Path, NoPath}
+use Rattle.search.proofs.Answers.{wanted-front}
 use Rattle.matching.specs.Matching.{Matching}
 use Rattle.matching.specs.Rotation.{rotateAlong, Rotates, Augments}
 use Rattle.matching.specs.Row.{partnerIn}
@@ -37,12 +38,16 @@ row-front n h = length-take-le n (replicate {A = ℕ} 127 0) (omega (arith, leng
 pub reached-front : (n : ℕ) → n ≤ 127 → length (take (2 * (n + 1)) (replicate {A = ℕ} 256 0)) ≡ 2 * (n + 1)
 reached-front n h = length-take-le (2 * (n + 1)) (replicate {A = ℕ} 256 0) (omega (arith, length-replicate {A = ℕ} 256 0))
 
-pub path-answer : (g : Graph) (a : Answer) (k : ℕ) (path reached cs : List ℕ) → a ≡ Path k → Answered g a path reached cs → (k < nodes g) × (isWanted g (take k path) ≡ true)
-path-answer g a k path reached cs e A = subst (λ (z : Answer). Answered g z path reached cs) e A
+pub path-answer : (g : Graph) (a : Answer) (k : ℕ) (path path′ reached : List ℕ) → nodes g ≤ length path → a ≡ Path k → Searched g a path path′ reached →
+    (k < nodes g) × (isWanted g (take k path′) ≡ true)
+path-answer g a k path path′ reached h e A =
+    let W = subst (λ (z : Answer). Searched g z path path′ reached) e A .0 in
+    let few = W .few in
+    (few, wanted-front W (omega arith))
 
-pub barrier-answer : (g : Graph) (a : Answer) (path reached cs : List ℕ) → a ≡ Barrier → Answered g a path reached cs →
-    (hasPath g ≡ false) × ((v : ℕ) → isReachable g v ≡ reachedIn reached v) × (cs ≡ canonical g)
-barrier-answer g a path reached cs e A = subst (λ (z : Answer). Answered g z path reached cs) e A
+pub none-answer : (g : Graph) (a : Answer) (path path′ reached : List ℕ) → a ≡ NoPath → Searched g a path path′ reached →
+    (hasPath g ≡ false) × (path′ ≡ path) × ((v : ℕ) → isReachable g v ≡ reachedIn reached v)
+none-answer g a path path′ reached e A = subst (λ (z : Answer). Searched g z path path′ reached) e A
 
 module _ (row firsts seconds : List ℕ) {ts₀ hs₀ ts hs : List ℕ} {r : ℕ} (T : FitTable (length row) firsts seconds) (M : Matching (zipPairs firsts seconds) (partnerIn row)) (D : Doubled row (zipPairs firsts seconds) ts₀ hs₀ ts hs r) where
   abbrev n : ℕ
@@ -92,8 +97,8 @@ module _ (row firsts seconds : List ℕ) {ts₀ hs₀ ts hs : List ℕ} {r : ℕ
           none = λ t. true-false refl t;
         }
 
-  pub barrier-stepped : (reached : List ℕ) → hasPath g ≡ false → ((v : ℕ) → isReachable g v ≡ reachedIn reached v) → Stepped fs row row reached false
-  barrier-stepped reached e tells =
+  pub none-stepped : (reached : List ℕ) → hasPath g ≡ false → ((v : ℕ) → isReachable g v ≡ reachedIn reached v) → Stepped fs row row reached false
+  none-stepped reached e tells =
       record {
         more = λ t. true-false t refl;
         none = λ t. (

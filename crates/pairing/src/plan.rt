@@ -14,7 +14,7 @@ use crate::row::pairs_of;
 use crate::row::row_of;
 use crate::table::table;
 use search::answer::Answer;
-use search::answer::path_or_barrier;
+use search::answer::path_or_reached;
 
 // One search: one pair more along the path found, or the table of reached nodes.
 fn improve(row: &mut [u8], firsts: &[u8], seconds: &[u8], reached: &mut [usize]) -> bool
@@ -25,18 +25,15 @@ fn improve(row: &mut [u8], firsts: &[u8], seconds: &[u8], reached: &mut [usize])
 {
     let mut tails = [0u8; 8192];
     let mut heads = [0u8; 8192];
-    let mut class = [0u8; 256];
     let mut path = [0usize; 256];
     let n = row.len();
-    let nodes = 2 * (n + 1);
     let arcs = table(row, firsts, seconds, &mut tails, &mut heads);
-    let answer = path_or_barrier(
+    let answer = path_or_reached(
         n + 1,
         2 * n,
         &tails[..arcs],
         &heads[..arcs],
         reached,
-        &mut class[..nodes],
         &mut path,
     );
     match answer {
@@ -44,7 +41,7 @@ fn improve(row: &mut [u8], firsts: &[u8], seconds: &[u8], reached: &mut [usize])
             augment(row, &tails[..arcs], &heads[..arcs], &path[..count]);
             true
         }
-        Answer::Barrier => false,
+        Answer::NoPath => false,
     }
 }
 
