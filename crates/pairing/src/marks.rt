@@ -1,4 +1,6 @@
 // Marks read off a table of reached nodes (document 01, "Stocks"; the table is that of a doubled table without a path).
+//   mark_of      a camera's mark, by its two nodes
+//   marks_of     every camera's
 ghost use mathlib.Core.Path.{_≡_};
 ghost use Prim.Native.Nat.{_*_, _≤_};
 ghost use lib.Dec.{ltb};
@@ -26,6 +28,7 @@ pub fn marks_of(reached: &[usize], marks: &mut [u8])
     ensures { λ r. ⌜ now (marks .exit) ≡ marksBy (reachedIn (now (reached .entry))) (below (length (now (marks .entry)))) ⌝ }
 {
     let mut k: usize = 0;
+    // invariant: each mark before k is read; falls: cameras left
     while k < marks.len() {
         marks[k] = mark_of(reached[2 * k], reached[2 * k + 1]);
         k += 1;

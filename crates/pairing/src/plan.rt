@@ -1,4 +1,18 @@
-// Largest pairings: search, augment, until there is no path.
+// Largest pairings (document 01, "Stocks"): from the lit pairs, search and augment until there is no path. Why that is enough:
+// - A regular path of the doubled table from the source to its mate is an augmenting path, a run of rotations that lights two cameras more and unlights
+//   none. So every lit camera stays lit, and nothing changes if nothing is gained. (matching/proofs/Augmentation wanted-augments, Plans augmented-plan)
+// - Where there is no path, the reached nodes give the Gallai-Edmonds decomposition. Outer cameras, with 2k reached, fall into groups of odd size; whatever
+//   a camera fits outside its group is inner, with 2k+1 reached alone. (matching/specs/Certificate, proofs/Groups, Decomposition certificate)
+// - That is the dual solution, the bound of Tutte and Berge: any pairing leaves over a camera of each group but for at most one group for each inner
+//   camera. The row leaves over exactly so many, so no pairing has more pairs. (matching/proofs/Certificates representatives-count, largest)
+// - A path to 2k gives a pairing as large that leaves camera k over, and by the same bound a largest pairing leaves over outer cameras only. So outer is
+//   mark 00, inner 01, the rest 02, whichever pairs are lit. (matching/proofs/Augmentation reachable-left, Certificates left-is-outer, Largest no-path-marks)
+// - The code's part: one search in proofs/Searching, the loop of searches in proofs/Improving.
+//   improve              one search
+//   largest              one after the other
+//   largest_from_lit     from the row of the lit pairs
+//   plan, plan_in        the pairs of a plan; the same with the row lent
+//   sheet, sheet_in      marks and the greatest number of pairs; the same with the row and the reached nodes lent
 ghost use mathlib.Core.Path.{_≡_};
 ghost use Prim.Native.Nat.{_+_, _*_, _≤_};
 ghost use lib.ListN.{length};
@@ -53,6 +67,7 @@ fn largest(row: &mut [u8], firsts: &[u8], seconds: &[u8], reached: &mut [usize])
     ensures { λ r. ⌜ Largest (zipPairs (now (firsts .entry)) (now (seconds .entry))) (now (row .entry)) (now (row .exit)) (now (reached .exit)) ⌝ }
 {
     let mut more = true;
+    // invariant: specs/Plan Improving, and Ended where there is no more; falls: unlit cameras, and at last `more`
     while more {
         more = improve(row, firsts, seconds, reached);
     }

@@ -1,4 +1,10 @@
 // Rows of partners: read from pairs, rotated along a path, written as pairs.
+//   rotate                    one rotation
+//   augment                   the rotations of a path
+//   clear_row, light_pairs    no pair lit; each lit
+//   row_of                    both: the row of a list of pairs
+//   put_pair, pairs_of        a camera's pair written; the pairs of a row in order
+//   pair_count                how many there are
 ghost use mathlib.Core.Path.{_≡_};
 ghost use mathlib.Core.List.{[]};
 ghost use Prim.Native.Nat.{_<_, _≤_};
@@ -31,6 +37,7 @@ pub fn augment(row: &mut [u8], tails: &[u8], heads: &[u8], path: &[usize])
     ensures { λ r. ⌜ partnerIn (now (row .exit)) ≡ rotateAlong (tableGraph (now (row .entry)) (now (tails .entry)) (now (heads .entry))) (drop 1 (now (path .entry))) (partnerIn (now (row .entry))) ⌝ }
 {
     let mut i: usize = 1;
+    // invariant: specs/Row Following; falls: arcs of the path left
     while i + 1 < path.len() {
         let e = path[i];
         rotate(row, tails[e] / 2, heads[e] / 2);
@@ -44,6 +51,7 @@ fn clear_row(row: &mut [u8])
     ensures { λ r. ⌜ partnerIn (now (row .exit)) ≡ partner [] ⌝ }
 {
     let mut k: usize = 0;
+    // invariant: each camera before k is its own partner; falls: cameras left
     while k < row.len() {
         row[k] = k as u8;
         k += 1;
@@ -57,6 +65,7 @@ fn light_pairs(row: &mut [u8], firsts: &[u8], seconds: &[u8])
     ensures { λ r. ⌜ partnerIn (now (row .exit)) ≡ partner (zipPairs (now (firsts .entry)) (now (seconds .entry))) ⌝ }
 {
     let mut i = firsts.len();
+    // invariant: the row is that of the pairs from i on; falls: i
     while 0 < i {
         i -= 1;
         let u = firsts[i];
@@ -99,6 +108,7 @@ pub fn pairs_of(row: &[u8], pair_firsts: &mut [u8], pair_seconds: &mut [u8]) -> 
 {
     let mut at: usize = 0;
     let mut k: usize = 0;
+    // invariant: specs/Table WritingPairs, with specs/Row pairsLeft; falls: cameras left
     while k < row.len() {
         at = put_pair(pair_firsts, pair_seconds, at, k as u8, row[k]);
         k += 1;
@@ -113,6 +123,7 @@ pub fn pair_count(row: &[u8]) -> usize
 {
     let mut count: usize = 0;
     let mut k: usize = 0;
+    // invariant: those counted and specs/Row pairsLeft are all; falls: cameras left
     while k < row.len() {
         if (k as u8) < row[k] {
             count += 1;

@@ -1,4 +1,8 @@
 // The doubled table of a row of partners (document 01, "Stocks"): tails and heads of its arcs, each followed by its mate.
+//   put                          an arc and its mate
+//   put_camera, put_cameras      the arcs of a camera, of every camera
+//   put_fit, put_fits            the arcs of a fit, of every fit that is not lit
+//   table                        all of them
 ghost use mathlib.Core.List.{[], _∷_};
 ghost use Prim.Native.Nat.{ℕ, _+_, _*_, _<_, _≤_};
 ghost use lib.ListN.{length, getD};
@@ -65,6 +69,7 @@ fn put_cameras(row: &[u8], tails: &mut [u8], heads: &mut [u8]) -> usize
     let n = row.len() as u8;
     let mut at: usize = 0;
     let mut k: u8 = 0;
+    // invariant: specs/Table WritingPairs, with camerasLeft; falls: cameras left
     while k < n {
         at = put_camera(n, k, row[k as usize], tails, heads, at);
         k += 1;
@@ -88,6 +93,7 @@ fn put_fits(
 {
     let mut at = start;
     let mut i: usize = 0;
+    // invariant: specs/Table WritingPairs, with fitsLeft; falls: fits left
     while i < firsts.len() {
         let u = firsts[i];
         at = put_fit(u, seconds[i], row[u as usize], tails, heads, at);
