@@ -10,14 +10,13 @@ use Prim.Native.Nat.{ℕ, suc, _+_, _-_, _*_, _≤_, _<_}
 use native.Mathlib.Numerals.{add-one}
 use native.Mathlib.Omega.{arith}
 use lib.ListN.{length, getD, take, drop}
-use lib.Seq.{drop-cons, drop-length, length-take-le, length-sets}
+use lib.Seq.{drop-cons, drop-length, length-sets}
 use Rattle.counting.specs.Tests.{below, upFrom}
 use Rattle.counting.specs.Lists.{In}
 use Rattle.counting.specs.Pairs.{Pair, pair, noPair, firstsOf, secondsOf, zipPairs, pairsOf}
 use Rattle.counting.proofs.Membership.{getD-in}
 use Rattle.counting.proofs.Zips.{zip-length, zip-at, pairs-stored}
 use Rattle.counting.proofs.Range.{length-up, up-cons, up-none}
-use Rattle.arcs.proofs.Tables.{arcs-zip}
 use Rattle.matching.specs.Matching.{Matching}
 use Rattle.matching.specs.Row.{partnerIn}
 use Rattle.matching.specs.DoubledTable.{arcsOfCamera, cameraArcs, arcsOfFit, fitArcs, doubledTable}
@@ -108,5 +107,4 @@ doubled-graph row fs ts hs ts′ hs′ r D =
     let lh : length hs′ ≡ length hs = ap (λ (l : List ℕ). length l) (W .seconds) ∙ length-sets hs 0 (secondsOf xs) in
     let c : r ≡ length xs = omega (arith, W .count) in
     let arcs : pairsOf r ts′ hs′ ≡ xs = rw (W .firsts, W .seconds, c) (pairs-stored xs ts hs (omega (arith, D .tails)) (omega (arith, D .heads))) in
-    ap (λ (ps : List Pair). record { pairs = suc (length row); source = 2 * length row; arcs = ps })
-    (arcs-zip (take r ts′) (take r hs′) (length-take-le r hs′ (D .heads) ∙ sym (length-take-le r ts′ (D .tails))) ∙ arcs)
+    ap (λ (ps : List Pair). record { pairs = suc (length row); source = 2 * length row; arcs = ps }) arcs

@@ -8,7 +8,7 @@ use lib.ListN.{length, getD, drop, length-drop}
 use lib.Seq.{drop-cons}
 use Rattle.skew.specs.Graph.{Graph}
 use Rattle.skew.specs.Paths.{tail, head}
-use Rattle.arcs.proofs.Tables.{arcs-length, tail-is, head-is}
+use Rattle.arcs.proofs.Tables.{in-arcs, tail-is, head-is}
 use Rattle.matching.specs.Rotation.{rotate, rotateAlong, Rotates}
 use Rattle.matching.specs.Row.{partnerIn, rotateRow}
 use Rattle.matching.proofs.Rows.{row-partner, length-rotate, rotate-row}
@@ -32,9 +32,8 @@ module _ (ts hs path row₀ : List ℕ) (i : ℕ) (row : List ℕ) where
       let e = getD path i 0 in
       let l = two-left h in
       let r = subst (λ (z : List ℕ). Rotates (length row₀) g z (partnerIn row)) l (F .rotates) in
-      let low : e < length ts = omega (arith, r .0, arcs-length ts hs) in
-      let a : tail g e ≡ getD ts e 0 = tail-is (suc (length row₀)) (2 * length row₀) ts hs e low in
-      let b : head g e ≡ getD hs e 0 = head-is (suc (length row₀)) (2 * length row₀) ts hs e low in
+      let a : tail g e ≡ getD ts e 0 = tail-is (suc (length row₀)) (2 * length row₀) ts hs e (r .0) in
+      let b : head g e ≡ getD hs e 0 = head-is (suc (length row₀)) (2 * length row₀) ts hs e (r .0) in
       let u = getD ts e 0 / 2 in
       let v = getD hs e 0 / 2 in
       let s : (u < length row₀) × (v < length row₀) × (partnerIn row v < length row₀) × (u ≡ v → ⊥) × Rotates (length row₀) g (drop (i + 2) path) (rotate (partnerIn row) u v) =
@@ -46,7 +45,7 @@ module _ (ts hs path row₀ : List ℕ) (i : ℕ) (row : List ℕ) where
       let along : rotateAlong g (drop i path) (partnerIn row) ≡ rotateAlong g (drop (i + 2) path) (rotate (partnerIn row) u v) =
       rw (l, ← a, ← b) in
       record {
-        arc = low;
+        arc = in-arcs (suc (length row₀)) (2 * length row₀) ts hs e (r .0);
         first = omega (arith, s .0);
         second = omega (arith, s .1);
         third = third;
