@@ -6,6 +6,7 @@
 --   Stores       a table filled from its front
 --   Searching    the doubled table as a search sees it, and its answers
 --   Improving    from the lit pairs to a plan, one search after the other
+--   Plans        what a caller reads of a plan that it was handed
 pub mod Writing
 pub mod Doubling
 pub mod Following
@@ -13,3 +14,4 @@ pub mod Lighting
 pub mod Stores
 pub mod Searching
 pub mod Improving
+pub mod Plans
