@@ -11,6 +11,7 @@ use native.Mathlib.Numerals.{add-one}
 use native.Mathlib.Omega.{arith}
 use lib.ListN.{length, getD, take, drop}
 use lib.Seq.{drop-cons, drop-length, length-sets}
+use Rattle.formats.specs.Limits.{arcsMost}
 use Rattle.counting.specs.Tests.{below, upFrom}
 use Rattle.counting.specs.Lists.{In}
 use Rattle.counting.specs.Pairs.{Pair, pair, noPair, firstsOf, secondsOf, zipPairs, pairsOf}
@@ -87,7 +88,7 @@ module _ (row firsts seconds : List ℕ) (T : FitTable (length row) firsts secon
   pub row-low : (k : ℕ) → k < n → getD row k 0 < n
   row-low k h = rw (← row-partner row k h) (matching-low n (zipPairs firsts seconds) (T .fits) (partnerIn row) M k h)
 
-  pub doubled : {ts hs ts₁ hs₁ : List ℕ} {m : ℕ} {ts₂ hs₂ : List ℕ} {r : ℕ} → length ts₂ ≡ length ts → length hs₂ ≡ length hs → 8192 ≤ length ts → 8192 ≤ length hs →
+  pub doubled : {ts hs ts₁ hs₁ : List ℕ} {m : ℕ} {ts₂ hs₂ : List ℕ} {r : ℕ} → length ts₂ ≡ length ts → length hs₂ ≡ length hs → arcsMost ≤ length ts → arcsMost ≤ length hs →
       PairsWritten ts hs 0 ts₁ hs₁ m (cameraArcs n (partnerIn row) (below n) []) → PairsWritten ts₁ hs₁ m ts₂ hs₂ r (fitArcs (partnerIn row) (zipPairs firsts seconds)) →
       Doubled row (zipPairs firsts seconds) ts hs ts₂ hs₂ r
   doubled {ts} {hs} {ts₂ = ts₂} {hs₂} {r} lt lh ht hh A B =
@@ -95,7 +96,7 @@ module _ (row firsts seconds : List ℕ) (T : FitTable (length row) firsts secon
       let fs = zipPairs firsts seconds in
       let W : PairsWritten ts hs 0 ts₂ hs₂ r (cameraArcs n p (below n) (fitArcs p fs)) =
       written-as (camera-arcs-rest n p (below n) (fitArcs p fs)) (written-more A B) in
-      let few : r ≤ 8192 = omega (arith, W .count, table-size n fs p, zip-length firsts seconds (T .as-long), T .cameras-few, T .fits-few) in
+      let few : r ≤ arcsMost = omega (arith, W .count, table-size n fs p, zip-length firsts seconds (T .as-long), T .cameras-few, T .fits-few) in
       record { written = W; tails = omega arith; heads = omega arith; few = few }
 
 pub doubled-graph : (row : List ℕ) (fs : List Pair) (ts hs ts′ hs′ : List ℕ) (r : ℕ) → Doubled row fs ts hs ts′ hs′ r →

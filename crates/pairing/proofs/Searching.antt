@@ -12,6 +12,7 @@ use native.Mathlib.Numerals.{add-one}
 use native.Mathlib.Omega.{arith}
 use lib.ListN.{length, take, drop, replicate, length-replicate}
 use lib.Seq.{length-take-le}
+use Rattle.formats.specs.Limits.{camerasMost}
 use Rattle.counting.specs.Pairs.{Pair, zipPairs}
 use Rattle.counting.proofs.Booleans.{true-false}
 use Rattle.skew.specs.Graph.{Graph, nodes, isWanted, isReachable, hasPath}
@@ -32,10 +33,10 @@ use Rattle.pairing.specs.Row.{tableGraph}
 use Rattle.pairing.specs.Plan.{reachedIn, Stepped}
 use Rattle.pairing.proofs.Doubling.{doubled-graph}
 
-pub row-front : (n : ℕ) → n ≤ 127 → length (take n (replicate {A = ℕ} 127 0)) ≡ n
-row-front n h = length-take-le n (replicate {A = ℕ} 127 0) (omega (arith, length-replicate {A = ℕ} 127 0))
+pub row-front : (n : ℕ) → n ≤ camerasMost → length (take n (replicate {A = ℕ} camerasMost 0)) ≡ n
+row-front n h = length-take-le n (replicate {A = ℕ} camerasMost 0) (omega (arith, length-replicate {A = ℕ} camerasMost 0))
 
-pub reached-front : (n : ℕ) → n ≤ 127 → length (take (2 * (n + 1)) (replicate {A = ℕ} 256 0)) ≡ 2 * (n + 1)
+pub reached-front : (n : ℕ) → n ≤ camerasMost → length (take (2 * (n + 1)) (replicate {A = ℕ} 256 0)) ≡ 2 * (n + 1)
 reached-front n h = length-take-le (2 * (n + 1)) (replicate {A = ℕ} 256 0) (omega (arith, length-replicate {A = ℕ} 256 0))
 
 pub path-answer : (g : Graph) (a : Answer) (k : ℕ) (path path′ reached : List ℕ) → nodes g ≤ length path → a ≡ Path k → Searched g a path path′ reached →

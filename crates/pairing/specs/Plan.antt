@@ -16,6 +16,7 @@ use Prim.Native.Nat.{ℕ, suc, _*_, _≤_, _<_}
 use lib.Dec.{ltb}
 use lib.ListN.{length, getD}
 use lib.Seq.{sets}
+use Rattle.formats.specs.Limits.{camerasMost, fitsMost}
 use Rattle.counting.specs.Pairs.{Pair, firstsOf, secondsOf}
 use Rattle.skew.specs.Graph.{isReachable, hasPath}
 use Rattle.matching.specs.Stock.{Stock, greatest, marksOf, isPlan}
@@ -29,8 +30,8 @@ use Rattle.pairing.specs.Table.{stockOf}
 pub record StockTable (n : ℕ) (firsts seconds litFirsts litSeconds : List ℕ) : Type 0 where
   pub as-long : length seconds ≡ length firsts
   pub lit-as-long : length litSeconds ≡ length litFirsts
-  pub cameras-few : n ≤ 127
-  pub fits-few : length firsts ≤ 3900
+  pub cameras-few : n ≤ camerasMost
+  pub fits-few : length firsts ≤ fitsMost
   pub well-formed : WellFormedStock (stockOf n firsts seconds litFirsts litSeconds)
 
 abbrev pub reachedIn : (reached : List ℕ) → (node : ℕ) → Bool

@@ -11,6 +11,7 @@ use mathlib.Core.List.{List, [], _++_}
 use Prim.Native.Nat.{ℕ, _+_, _-_, _≤_, _<_}
 use lib.ListN.{length, getD, drop}
 use lib.Seq.{sets}
+use Rattle.formats.specs.Limits.{arcsMost, camerasMost, fitsMost}
 use Rattle.counting.specs.Tests.{upFrom}
 use Rattle.counting.specs.Pairs.{Pair, firstsOf, secondsOf, zipPairs}
 use Rattle.matching.specs.Stock.{Stock}
@@ -29,8 +30,8 @@ pub record PairTable (n : ℕ) (firsts seconds : List ℕ) : Type 0 where
 
 pub record FitTable (n : ℕ) (firsts seconds : List ℕ) : Type 0 where
   pub as-long : length seconds ≡ length firsts
-  pub cameras-few : n ≤ 127
-  pub fits-few : length firsts ≤ 3900
+  pub cameras-few : n ≤ camerasMost
+  pub fits-few : length firsts ≤ fitsMost
   pub fits : FitsBelow n (zipPairs firsts seconds)
 
 pub record PairsWritten (xs ys : List ℕ) (at : ℕ) (xs′ ys′ : List ℕ) (r : ℕ) (ps : List Pair) : Type 0 where
@@ -54,4 +55,4 @@ pub record Doubled (row : List ℕ) (fs : List Pair) (ts hs ts′ hs′ : List �
   pub written : PairsWritten ts hs 0 ts′ hs′ r (doubledTable (length row) fs (partnerIn row) .arcs)
   pub tails : r ≤ length ts′
   pub heads : r ≤ length hs′
-  pub few : r ≤ 8192
+  pub few : r ≤ arcsMost

@@ -27,6 +27,8 @@ use crate::row::pair_count;
 use crate::row::pairs_of;
 use crate::row::row_of;
 use crate::table::table;
+use formats::limits::ARCS_MOST;
+use formats::limits::CAMERAS_MOST;
 use search::answer::Answer;
 use search::answer::path_or_reached;
 
@@ -37,8 +39,8 @@ fn improve(row: &mut [u8], firsts: &[u8], seconds: &[u8], reached: &mut [usize])
     requires { ⌜ length (now reached) ≡ 2 * (length (now row) + 1) ⌝ }
     ensures { λ r. ⌜ Stepped (zipPairs (now (firsts .entry)) (now (seconds .entry))) (now (row .entry)) (now (row .exit)) (now (reached .exit)) r ⌝ }
 {
-    let mut tails = [0u8; 8192];
-    let mut heads = [0u8; 8192];
+    let mut tails = [0u8; ARCS_MOST];
+    let mut heads = [0u8; ARCS_MOST];
     let mut path = [0usize; 256];
     let n = row.len();
     let arcs = table(row, firsts, seconds, &mut tails, &mut heads);
@@ -131,7 +133,7 @@ pub fn plan(
     requires { ⌜ (cameras ≤ length (now «pair_firsts»)) × (cameras ≤ length (now «pair_seconds»)) ⌝ }
     ensures { λ r. ⌜ PlanListed (stockOf cameras (now (firsts .entry)) (now (seconds .entry)) (now («lit_firsts» .entry)) (now («lit_seconds» .entry))) (now («pair_firsts» .entry)) (now («pair_seconds» .entry)) (now («pair_firsts» .exit)) (now («pair_seconds» .exit)) r ⌝ }
 {
-    let mut row = [0u8; 127];
+    let mut row = [0u8; CAMERAS_MOST];
     plan_in(
         &mut row[..cameras],
         firsts,
@@ -174,7 +176,7 @@ pub fn sheet(
     requires { ⌜ StockTable (length (now marks)) (now firsts) (now seconds) (now «lit_firsts») (now «lit_seconds») ⌝ }
     ensures { λ r. ⌜ Sheet (length (now (marks .entry))) (zipPairs (now (firsts .entry)) (now (seconds .entry))) (now (marks .exit)) r ⌝ }
 {
-    let mut row = [0u8; 127];
+    let mut row = [0u8; CAMERAS_MOST];
     let mut reached = [0usize; 256];
     let cameras = marks.len();
     let nodes = 2 * (cameras + 1);

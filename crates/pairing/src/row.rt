@@ -9,6 +9,7 @@ ghost use mathlib.Core.Path.{_≡_};
 ghost use mathlib.Core.List.{[]};
 ghost use Prim.Native.Nat.{_<_, _≤_};
 ghost use lib.ListN.{length, getD, drop};
+ghost use Rattle.formats.specs.Limits.{camerasMost};
 ghost use Rattle.counting.specs.Tests.{below};
 ghost use Rattle.matching.specs.Matching.{partner, pairOf, pairsInOrder};
 ghost use Rattle.matching.specs.Rotation.{rotateAlong, Rotates};
@@ -47,7 +48,7 @@ pub fn augment(row: &mut [u8], tails: &[u8], heads: &[u8], path: &[usize])
 
 // Every camera unlit.
 fn clear_row(row: &mut [u8])
-    requires { ⌜ length (now row) ≤ 127 ⌝ }
+    requires { ⌜ length (now row) ≤ camerasMost ⌝ }
     ensures { λ r. ⌜ partnerIn (now (row .exit)) ≡ partner [] ⌝ }
 {
     let mut k: usize = 0;
@@ -77,7 +78,7 @@ fn light_pairs(row: &mut [u8], firsts: &[u8], seconds: &[u8])
 
 // The row of a list of pairs.
 pub fn row_of(row: &mut [u8], firsts: &[u8], seconds: &[u8])
-    requires { ⌜ length (now row) ≤ 127 ⌝ }
+    requires { ⌜ length (now row) ≤ camerasMost ⌝ }
     requires { ⌜ PairTable (length (now row)) (now firsts) (now seconds) ⌝ }
     ensures { λ r. ⌜ partnerIn (now (row .exit)) ≡ partner (zipPairs (now (firsts .entry)) (now (seconds .entry))) ⌝ }
 {
@@ -101,7 +102,7 @@ fn put_pair(pair_firsts: &mut [u8], pair_seconds: &mut [u8], at: usize, u: u8, v
 
 // The pairs of a row in order, at the front of two slices: how many.
 pub fn pairs_of(row: &[u8], pair_firsts: &mut [u8], pair_seconds: &mut [u8]) -> usize
-    requires { ⌜ length (now row) ≤ 127 ⌝ }
+    requires { ⌜ length (now row) ≤ camerasMost ⌝ }
     requires { ⌜ length (now row) ≤ length (now «pair_firsts») ⌝ }
     requires { ⌜ length (now row) ≤ length (now «pair_seconds») ⌝ }
     ensures { λ r. ⌜ PairsWritten (now («pair_firsts» .entry)) (now («pair_seconds» .entry)) 0 (now («pair_firsts» .exit)) (now («pair_seconds» .exit)) r (pairsInOrder (partnerIn (now (row .entry))) (below (length (now (row .entry))))) ⌝ }
@@ -118,7 +119,7 @@ pub fn pairs_of(row: &[u8], pair_firsts: &mut [u8], pair_seconds: &mut [u8]) -> 
 
 // How many pairs a row has.
 pub fn pair_count(row: &[u8]) -> usize
-    requires { ⌜ length (now row) ≤ 127 ⌝ }
+    requires { ⌜ length (now row) ≤ camerasMost ⌝ }
     ensures { λ r. ⌜ r ≡ length (pairsInOrder (partnerIn (now (row .entry))) (below (length (now (row .entry))))) ⌝ }
 {
     let mut count: usize = 0;

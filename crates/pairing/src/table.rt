@@ -6,6 +6,7 @@
 ghost use mathlib.Core.List.{[], _∷_};
 ghost use Prim.Native.Nat.{ℕ, _+_, _*_, _<_, _≤_};
 ghost use lib.ListN.{length, getD};
+ghost use Rattle.formats.specs.Limits.{arcsMost, camerasMost};
 ghost use Rattle.counting.specs.Tests.{below};
 ghost use Rattle.counting.specs.Pairs.{pair, zipPairs};
 ghost use Rattle.matching.specs.Matching.{Matching};
@@ -28,7 +29,7 @@ fn put(tails: &mut [u8], heads: &mut [u8], at: usize, a: u8, b: u8, c: u8, d: u8
 
 // What the pairing says of camera k with partner w.
 fn put_camera(n: u8, k: u8, w: u8, tails: &mut [u8], heads: &mut [u8], at: usize) -> usize
-    requires { ⌜ n < 128 ⌝ }
+    requires { ⌜ n ≤ camerasMost ⌝ }
     requires { ⌜ k < n ⌝ }
     requires { ⌜ w < n ⌝ }
     requires { ⌜ at + 1 < length (now tails) ⌝ }
@@ -46,8 +47,8 @@ fn put_camera(n: u8, k: u8, w: u8, tails: &mut [u8], heads: &mut [u8], at: usize
 
 // A fit of u, whose partner is w, and v: nothing if it is lit.
 fn put_fit(u: u8, v: u8, w: u8, tails: &mut [u8], heads: &mut [u8], at: usize) -> usize
-    requires { ⌜ u < 127 ⌝ }
-    requires { ⌜ v < 127 ⌝ }
+    requires { ⌜ u < camerasMost ⌝ }
+    requires { ⌜ v < camerasMost ⌝ }
     requires { ⌜ at + 1 < length (now tails) ⌝ }
     requires { ⌜ at + 1 < length (now heads) ⌝ }
     ensures { λ r. ⌜ PairsWritten (now (tails .entry)) (now (heads .entry)) at (now (tails .exit)) (now (heads .exit)) r (arcsOfFit u v w) ⌝ }
@@ -60,7 +61,7 @@ fn put_fit(u: u8, v: u8, w: u8, tails: &mut [u8], heads: &mut [u8], at: usize) -
 
 // The arcs of every camera.
 fn put_cameras(row: &[u8], tails: &mut [u8], heads: &mut [u8]) -> usize
-    requires { ⌜ length (now row) ≤ 127 ⌝ }
+    requires { ⌜ length (now row) ≤ camerasMost ⌝ }
     requires { ⌜ ((k : ℕ) → k < length (now row) → getD (now row) k 0 < length (now row)) ⌝ }
     requires { ⌜ 2 * length (now row) ≤ length (now tails) ⌝ }
     requires { ⌜ 2 * length (now row) ≤ length (now heads) ⌝ }
@@ -106,8 +107,8 @@ fn put_fits(
 pub fn table(row: &[u8], firsts: &[u8], seconds: &[u8], tails: &mut [u8], heads: &mut [u8]) -> usize
     requires { ⌜ FitTable (length (now row)) (now firsts) (now seconds) ⌝ }
     requires { ⌜ Matching (zipPairs (now firsts) (now seconds)) (partnerIn (now row)) ⌝ }
-    requires { ⌜ 8192 ≤ length (now tails) ⌝ }
-    requires { ⌜ 8192 ≤ length (now heads) ⌝ }
+    requires { ⌜ arcsMost ≤ length (now tails) ⌝ }
+    requires { ⌜ arcsMost ≤ length (now heads) ⌝ }
     ensures { λ r. ⌜ Doubled (now (row .entry)) (zipPairs (now (firsts .entry)) (now (seconds .entry))) (now (tails .entry)) (now (heads .entry)) (now (tails .exit)) (now (heads .exit)) r ⌝ }
 {
     let start = put_cameras(row, tails, heads);
