@@ -164,8 +164,8 @@ impl Programs {
         if right {
             return Ok(printed);
         }
-        let what = format!("{name} prints\n{}where refusal {} is owed (0: an answer)", shown(&printed), owed.number);
-        Err(format!("{what}, given\n{}", shown(&pieces.concat())))
+        let owed = if owed.number == 0 { "an answer".to_string() } else { format!("refusal {}", owed.number) };
+        Err(format!("{name} prints\n{}where {owed} is owed, given\n{}", shown(&printed), shown(&pieces.concat())))
     }
 
     /// What a program prints, of what it is given on standard input.
