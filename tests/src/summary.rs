@@ -143,7 +143,8 @@ impl<F: Fn(usize) -> Trial> Right<F> {
         Right { tried, passes: vec![None; groups] }
     }
 
-    /// The first group that a wrong one fails, by its place; the right one must pass it. A panic, or what could not be run, is no such failure.
+    /// The first group that a wrong one fails, by its place; the right one must pass it.
+    /// A panic, or what could not be run, is no such failure.
     fn caught(&mut self, wrong: impl Fn(usize) -> Trial) -> Result<usize, String> {
         for place in 0..self.passes.len() {
             match wrong(place) {
