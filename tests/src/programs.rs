@@ -2,7 +2,7 @@
 //!   Place               where they are: in a folder, or this binary standing in for them, rightly or wrongly
 //!   Programs            a place, and what starts them, as valgrind
 //!   graph, stock        a file handed in on standard input; what is printed, for a stock by both its programs
-//!   graph_in_pieces, stock_in_pieces    the same with a pause between pieces
+//!   graph_in_pieces, stock_in_pieces    the same, each piece after the one before was read
 //!   check, check_given  graph.hex and cert.hex, each a file, nothing, or a link that leads nowhere (Given)
 //!   runs, never_printed     how often programs were run; what of all that they can come to was not met
 
@@ -18,9 +18,11 @@ use std::cell::{Cell, RefCell};
 use std::collections::BTreeSet;
 use std::fs;
 use std::io::Write;
+use std::os::fd::AsRawFd;
+use std::os::raw::{c_int, c_ulong};
 use std::os::unix::fs::symlink;
 use std::path::PathBuf;
-use std::process::{Child, Command, Stdio};
+use std::process::{Child, ChildStdin, Command, Stdio};
 use std::sync::atomic::{AtomicUsize, Ordering};
 use std::time::Duration;
 
@@ -73,9 +75,9 @@ pub const NOT_RUN: &str = "not run: ";
 /// A number for each folder to run in.
 static FOLDERS: AtomicUsize = AtomicUsize::new(0);
 
-/// A pause between two pieces of input, in steps; it ends where the program does.
-const PAUSE_STEPS: usize = 40;
-const PAUSE_STEP: Duration = Duration::from_millis(5);
+/// Between two pieces of input: how often, and after which rest, it is asked whether the first was read.
+const WAIT_STEPS: usize = 10_000;
+const WAIT_STEP: Duration = Duration::from_millis(1);
 
 impl Programs {
     pub fn new(place: Place, starter: Vec<String>) -> Result<Programs, String> {
@@ -217,18 +219,38 @@ fn hand_in(running: &mut Child, pieces: &[&[u8]]) {
     let mut input = running.stdin.take().unwrap();
     for (place, piece) in pieces.iter().enumerate() {
         if place > 0 {
-            pause(running);
+            wait_until_read(&input, running);
         }
         let _ = input.write_all(piece);
     }
 }
 
-fn pause(running: &mut Child) {
+/// Until the program has read all that was written, or has ended; not for ever.
+fn wait_until_read(input: &ChildStdin, running: &mut Child) {
     let goes_on = |running: &mut Child| matches!(running.try_wait(), Ok(None));
-    for _ in 0..PAUSE_STEPS {
-        if !goes_on(running) {
+    for _ in 0..WAIT_STEPS {
+        if unread(input) == 0 || !goes_on(running) {
             return;
         }
-        std::thread::sleep(PAUSE_STEP);
+        std::thread::sleep(WAIT_STEP);
+    }
+}
+
+extern "C" {
+    fn ioctl(file: c_int, request: c_ulong, ...) -> c_int;
+}
+
+/// Linux's request for the number of bytes that stand in a pipe.
+const FIONREAD: c_ulong = 0x541B;
+
+/// How many bytes of a pipe are not read yet; 0 where the system does not tell.
+fn unread(pipe: &ChildStdin) -> c_int {
+    let mut bytes: c_int = 0;
+    // SAFETY: the request writes one int, and `bytes` is one
+    let answered = unsafe { ioctl(pipe.as_raw_fd(), FIONREAD, &mut bytes) } == 0;
+    if answered {
+        bytes
+    } else {
+        0
     }
 }
