@@ -1,10 +1,12 @@
 -- What the graph call answers: what is written is what it owes.
---   path-found, barrier-found           what the search found, and that a path is short
---   path-answered, barrier-answered     what is written of it
---   room-refused, file-refused          question 1 refuses, or one of the file's
---   read-table, read-few, read-answered none does: the graph as it was read, and what is owed of it
+--   Found                                   a wanted path stands at the front of a table, and is short
+--   path-found, barrier-found               what the search found
+--   path-small, barrier-small               the answer that is written of it is short
+--   path-written, barrier-written           and is what is owed of the graph
+--   room-refused, file-refused              question 1 refuses, or one of the file's
+--   read-table, read-few, read-answered     none does: the graph as it was read, and what is owed of it
 use mathlib.Core.Path.{_≡_, refl, sym, subst, _∙_}
-use mathlib.Core.Bool.{Bool, true, false}
+use mathlib.Core.Bool.{true, false}
 use mathlib.Core.List.{List, [], _∷_}
 use Prim.Native.Nat.{ℕ, suc, _+_, _*_, _≤_, _<_}
 use native.Mathlib.Omega.{arith}
@@ -23,13 +25,14 @@ use Rattle.skew.specs.Paths.{WellFormed}
 use Rattle.skew.proofs.Promise.{reaches-by-paths}
 use Rattle.files.specs.GraphFile.{graphIn, graphFault}
 use Rattle.files.specs.CertificateFile.{pathLines, pathText, classLines, barrierText}
-use Rattle.lanes.specs.Entry.{answerFault, refusal}
+use Rattle.lanes.specs.Entry.{answerFault}
+use Rattle.lanes.specs.Calls.{refusedBy, answeredBy}
 use Rattle.files.specs.Answers.{WrittenFirst}
 use Rattle.files.specs.Readers.{GraphRead}
 use Rattle.files.proofs.ArcTables.{held-graph, held-table}
-use Rattle.lanes.specs.GraphCalls.{graphAnswer, GraphWritten, GraphAnswered}
-use Rattle.lanes.specs.declared.Tally.{Tally}
+use Rattle.lanes.specs.GraphCalls.{GraphWritten, GraphAnswered}
 use Rattle.lanes.specs.declared.Answer.{Answer}
+use Rattle.lanes.specs.declared.Outcome.the-variants as outcome
 
 -- SIZES
 path-lines-length : (is : List ℕ) → length (pathLines is) ≡ 7 * length is
@@ -48,34 +51,12 @@ class-lines-length v (c ∷ cs) = simp (length-append, hexBytes-length) (omega (
 barrier-size : (cs : List ℕ) → length (barrierText cs) ≡ 10 + 7 * length cs
 barrier-size cs = simp (length-append, hexBytes-length) (omega (arith, class-lines-length 0 cs))
 
--- WRITTEN
+-- WHAT THE SEARCH FOUND
 wanted-path : (g : Graph) → WellFormed g → (is : List ℕ) → isWanted g is ≡ true → hasPath g ≡ true
 wanted-path g wf is e =
     reaches-by-paths g wf (mate (g .source)) .1
     (is, (and-left (isRegular g is) _ e, eqb-true _ _ (and-right (isRegular g is) _ e)))
 
-module _ {g : Graph} {before after : List ℕ} {size : ℕ} where
-  path-written : WellFormed g → (is : List ℕ) → isWanted g is ≡ true → length is ≤ 256 → WrittenFirst (pathText is) before after size →
-      GraphWritten g before after size true
-  path-written wf is e few w =
-      record {
-        has = wanted-path g wf is e;
-        path = λ _. (is, (e, w));
-        barrier = λ z. true-false refl z;
-        small = omega (arith, w .told, path-size is);
-      }
-
-  barrier-written : hasPath g ≡ false → (cs : List ℕ) → cs ≡ canonical g → length cs ≤ 256 → WrittenFirst (barrierText cs) before after size →
-      GraphWritten g before after size false
-  barrier-written e cs is few w =
-      record {
-        has = e;
-        path = λ z. true-false z refl;
-        barrier = λ _. subst (λ (xs : List ℕ). WrittenFirst (barrierText xs) before after size) is w;
-        small = omega (arith, w .told, barrier-size cs);
-      }
-
--- WHAT THE SEARCH FOUND
 pub record Found (g : Graph) (p : List ℕ) (k : ℕ) : Type 0 where
   pub inside : k ≤ length p
   pub long : length (take k p) ≡ k
@@ -97,13 +78,31 @@ module _ {n s : ℕ} {ts hs : List ℕ} (T : ArcTable n s ts hs) where
       subst (λ (x : search.Answer). Answered (graphOf n s ts hs) x p rs cs) e h in
       (r .0, r .2)
 
-  pub path-answered : {p before after : List ℕ} {k size : ℕ} → Found (graphOf n s ts hs) p k → WrittenFirst (pathText (take k p)) before after size →
-      GraphWritten (graphOf n s ts hs) before after size true
-  path-answered {p} {k = k} r w = path-written (T .well-formed) (take k p) (r .wanted) (omega (arith, r .long, r .few)) w
+  module _ {p before after : List ℕ} {k size : ℕ} (h : Found (graphOf n s ts hs) p k) (w : WrittenFirst (pathText (take k p)) before after size) where
+    pub path-small : size ≤ 2048
+    path-small = omega (arith, w .told, path-size (take k p), h .long, h .few)
 
-  pub barrier-answered : {ds before after : List ℕ} {size : ℕ} → (hasPath (graphOf n s ts hs) ≡ false) × (ds ≡ canonical (graphOf n s ts hs)) → length ds ≡ 2 * n →
-      WrittenFirst (barrierText ds) before after size → GraphWritten (graphOf n s ts hs) before after size false
-  barrier-answered {ds} r l w = barrier-written (r .0) ds (r .1) (omega (arith, T .pairs-few)) w
+    pub path-written : {r : Answer} → r ≡ answeredBy size outcome.Path → GraphWritten (graphOf n s ts hs) before after r
+    path-written is =
+        let has = wanted-path (graphOf n s ts hs) (T .well-formed) (take k p) (h .wanted) in
+        record {
+          path = λ _. (take k p, (h .wanted, (rw (is, w .told), w .bytes)));
+          barrier = λ z. true-false has z;
+          outcome = rw (is, has);
+        }
+
+  module _ (cs : List ℕ) {before after : List ℕ} {size : ℕ} (w : WrittenFirst (barrierText cs) before after size) where
+    pub barrier-small : length cs ≡ 2 * n → size ≤ 2048
+    barrier-small l = omega (arith, w .told, barrier-size cs, T .pairs-few)
+
+    pub barrier-written : {r : Answer} → (hasPath (graphOf n s ts hs) ≡ false) × (cs ≡ canonical (graphOf n s ts hs)) → r ≡ answeredBy size outcome.Barrier →
+        GraphWritten (graphOf n s ts hs) before after r
+    barrier-written h is =
+        record {
+          path = λ z. true-false z (h .0);
+          barrier = λ _. rw (← (h .1)) (rw (is, w .told), w .bytes);
+          outcome = rw (is, h .0);
+        }
 
 -- THE CALL
 module _ (f o : List ℕ) where
@@ -113,49 +112,22 @@ module _ (f o : List ℕ) where
   graph-file : 2048 ≤ length o → answerFault f o ≡ graphFault f
   graph-file h = rw (le-leb _ _ h)
 
-accepted : (f o : List ℕ) → answerFault f o ≡ 0 → eqb (answerFault f o) 0 ≡ true
-accepted f o e = rw e
-
-module _ (f o : List ℕ) {t : Tally} {r : Answer} where
-  graph-refused : {n : ℕ} → answerFault f o ≡ n → (n ≡ 0 → ⊥) → r ≡ refusal n t → GraphAnswered f o t (r .told) o (r .tally)
+module _ (f o : List ℕ) {r : Answer} where
+  graph-refused : {n : ℕ} → answerFault f o ≡ n → (n ≡ 0 → ⊥) → r ≡ refusedBy n → GraphAnswered f o r o
   graph-refused {n} e some is =
       let z : eqb (answerFault f o) 0 ≡ false = rw e (ne-eqb n 0 some) in
-      record { owes = (λ _. (rw (is, z, e), refl), λ q. absurd (some (sym e ∙ q))); tallied = rw (is, z) }
+      record { owes = (λ _. (rw (is, z, e), refl), λ q. absurd (some (sym e ∙ q))); outcome = rw (is, z) }
 
-  module _ {after : List ℕ} {size : ℕ} (e : answerFault f o ≡ 0) where
-    graph-path : r ≡ graphAnswer size true t → GraphWritten (graphIn f) o after size true → GraphAnswered f o t (r .told) after (r .tally)
-    graph-path is w =
-        let p = w .path refl in
-        record {
-          owes = (
-            λ z. true-false (accepted f o e) z,
-            λ _. (λ z. true-false (w .has) z, λ _. (p .0, (p .1 .0, (rw (is, p .1 .1 .told), p .1 .1 .bytes)))),
-          );
-          tallied = rw (is, accepted f o e, w .has);
-        }
+  graph-answered : {after : List ℕ} → answerFault f o ≡ 0 → GraphWritten (graphIn f) o after r → GraphAnswered f o r after
+  graph-answered e w =
+      let z : eqb (answerFault f o) 0 ≡ true = rw e in
+      record { owes = (λ y. true-false z y, λ _. (w .barrier, w .path)); outcome = rw z (w .outcome) }
 
-    graph-barrier : r ≡ graphAnswer size false t → GraphWritten (graphIn f) o after size false → GraphAnswered f o t (r .told) after (r .tally)
-    graph-barrier is w =
-        let b = w .barrier refl in
-        record {
-          owes = (
-            λ z. true-false (accepted f o e) z,
-            λ _. (λ _. (rw (is, b .told), b .bytes), λ z. true-false z (w .has)),
-          );
-          tallied = rw (is, accepted f o e, w .has);
-        }
+  pub room-refused : length o < 2048 → r ≡ refusedBy 1 → GraphAnswered f o r o
+  room-refused h is = graph-refused (graph-room f o h) (λ q. omega arith) is
 
-    graph-answered : (found : Bool) → r ≡ graphAnswer size found t → GraphWritten (graphIn f) o after size found →
-        GraphAnswered f o t (r .told) after (r .tally)
-    graph-answered true is w = graph-path is w
-    graph-answered false is w = graph-barrier is w
-
-module _ (f o : List ℕ) {t : Tally} {r : Answer} where
-  pub room-refused : length o < 2048 → r ≡ refusal 1 t → GraphAnswered f o t (r .told) o (r .tally)
-  room-refused h is = graph-refused f o (graph-room f o h) (λ q. omega arith) is
-
-  pub file-refused : {n : ℕ} → 2048 ≤ length o → n ≡ graphFault f → (n ≡ 0 → ⊥) → r ≡ refusal n t → GraphAnswered f o t (r .told) o (r .tally)
-  file-refused h e some is = graph-refused f o (graph-file f o h ∙ sym e) some is
+  pub file-refused : {n : ℕ} → 2048 ≤ length o → n ≡ graphFault f → (n ≡ 0 → ⊥) → r ≡ refusedBy n → GraphAnswered f o r o
+  file-refused h e some is = graph-refused (graph-file f o h ∙ sym e) some is
 
 -- of a graph as it was read
 module _ {f ts hs : List ℕ} {number pairs source arcs : ℕ} (h : GraphRead f ts hs number pairs source arcs) (e : number ≡ 0) where
@@ -168,7 +140,7 @@ module _ {f ts hs : List ℕ} {number pairs source arcs : ℕ} (h : GraphRead f 
   pub read-few : pairs ≤ 128
   read-few = read-table .pairs-few
 
-  pub read-answered : {o after : List ℕ} {t : Tally} {r : Answer} {size : ℕ} {found : Bool} → 2048 ≤ length o → r ≡ graphAnswer size found t →
-      GraphWritten (graphOf pairs source (take arcs ts) (take arcs hs)) o after size found → GraphAnswered f o t (r .told) after (r .tally)
-  read-answered {o} {after} {size = size} {found = found} l is w =
-      graph-answered f o (graph-file f o l ∙ read-fault) found is (subst (λ (g : Graph). GraphWritten g o after size found) (held-graph (h .held e)) w)
+  pub read-answered : {o after : List ℕ} {r : Answer} → 2048 ≤ length o → GraphWritten (graphOf pairs source (take arcs ts) (take arcs hs)) o after r →
+      GraphAnswered f o r after
+  read-answered {o} {after} {r} l w =
+      graph-answered f o (graph-file f o l ∙ read-fault) (subst (λ (g : Graph). GraphWritten g o after r) (held-graph (h .held e)) w)

@@ -2,14 +2,16 @@
 --   Marked           the marked set, as one fact about the definitions
 --   Promises         the promises, kept for every file
 --   BytePromises     five of them as document 03 states them
---   Verdicts         the check's answer
+--   Checks           the check's answer
 --   GraphCalls       what the graph call answers
 --   StockCalls       what the stock calls answer
+--   Outcomes         the tally that a call owes, by what the call came to
 --   LentTally        a call with its tally lent, over the call by value
 pub mod Marked
 pub mod Promises
 pub mod BytePromises
-pub mod Verdicts
+pub mod Checks
 pub mod GraphCalls
 pub mod StockCalls
+pub mod Outcomes
 pub mod LentTally

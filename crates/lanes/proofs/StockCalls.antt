@@ -1,6 +1,7 @@
 -- What the stock calls answer: the questions of a file settle what a search takes, and what is written is what they owe.
 --   pairs-few, listed-few             a row has no more pairs than cameras, and at most 127
---   plan-written, sheet-written       what is written, and its size
+--   plan-small, sheet-small           what is written is short
+--   plan-written, sheet-written       and is what is owed of the stock
 --   cameras-few, stock-table          an accepted file as it was read: what a search takes
 --   room-refused, file-refused        the question that refuses: the first, or one of the file's
 --   plan-refused, sheet-refused       what a refused call owes
@@ -26,11 +27,12 @@ use Rattle.pairing.specs.Table.{stockOf, Listed}
 use Rattle.pairing.specs.Plan.{StockTable, Sheet}
 use Rattle.files.specs.StockFile.{markLines, stockIn, stockFault, planText}
 use Rattle.files.specs.Answers.{WrittenFirst}
-use Rattle.lanes.specs.Entry.{sheetFault, refusal}
+use Rattle.lanes.specs.Entry.{sheetFault}
+use Rattle.lanes.specs.Calls.{refusedBy, answeredBy}
 use Rattle.files.specs.Readers.{StockRead}
-use Rattle.lanes.specs.StockCalls.{stockAnswer, PlanWritten, SheetWritten, PlanAnswered, SheetAnswered}
-use Rattle.lanes.specs.declared.Tally.{Tally}
+use Rattle.lanes.specs.StockCalls.{PlanWritten, SheetWritten, PlanAnswered, SheetAnswered}
 use Rattle.lanes.specs.declared.Answer.{Answer}
+use Rattle.lanes.specs.declared.Outcome.the-variants as outcome
 use Rattle.files.proofs.Tables.{pairs-length}
 use Rattle.files.proofs.AcceptedFiles.{accepted-stock, stock-few, fits-few}
 use Rattle.files.proofs.AnswerLines.{plan-size, sheet-size}
@@ -47,23 +49,23 @@ module _ (p : ℕ → ℕ) (n : ℕ) (few : n ≤ 127) {us vs : List ℕ} {r : �
   pub listed-few : r ≤ 127
   listed-few = omega (arith, l .count, pairs-few p (below n), length-up 0 n)
 
-  pub plan-written : {s : Stock} {before after : List ℕ} {size : ℕ} (m : ℕ) → n ≡ m → isPlan s (pairsInOrder p (below m)) ≡ true →
-      WrittenFirst (planText (pairsOf r us vs)) before after size → PlanWritten s before after size
-  plan-written m same e w =
-      record {
-        pairs = pairsOf r us vs;
-        plan = rw (l .pairs, same) e;
-        written = w;
-        small = omega (arith, w .told, plan-size (pairsOf r us vs), ap (λ (xs : List Pair). length xs) (l .pairs), l .count, listed-few);
-      }
+  module _ {before after : List ℕ} {size : ℕ} (w : WrittenFirst (planText (pairsOf r us vs)) before after size) where
+    pub plan-small : size ≤ 2048
+    plan-small = omega (arith, w .told, plan-size (pairsOf r us vs), ap (λ (xs : List Pair). length xs) (l .pairs), l .count, listed-few)
 
-pub sheet-written : {n : ℕ} {fs : List Pair} {ms before after : List ℕ} {k size : ℕ} → n ≤ 127 → Sheet n fs ms k →
-    WrittenFirst (frame4 65 k ++ markLines 0 ms ++ frameOf4 79 (length ms)) before after size → length ms ≡ n → SheetWritten n fs before after size
-sheet-written {n} {fs} {ms} {k = k} h s w l =
-    record {
-      written = rw (l, s .count, s .marks) at w;
-      small = omega (arith, w .told, sheet-size k (length ms) ms);
-    }
+    pub plan-written : {s : Stock} {a : Answer} (m : ℕ) → n ≡ m → isPlan s (pairsInOrder p (below m)) ≡ true → a ≡ answeredBy size outcome.Stock →
+        PlanWritten s before after a
+    plan-written m same e is =
+        record { pairs = pairsOf r us vs; plan = rw (l .pairs, same) e; answers = (rw (is, w .told), w .bytes); outcome = rw is }
+
+module _ (k : ℕ) (ms : List ℕ) {before after : List ℕ} {size : ℕ} (w : WrittenFirst (frame4 65 k ++ markLines 0 ms ++ frameOf4 79 (length ms)) before after size) where
+  pub sheet-small : length ms ≤ 127 → size ≤ 2048
+  sheet-small h = omega (arith, w .told, sheet-size k (length ms) ms)
+
+  pub sheet-written : {n : ℕ} {fs : List Pair} {a : Answer} → Sheet n fs ms k → length ms ≡ n → a ≡ answeredBy size outcome.Stock →
+      SheetWritten n fs before after a
+  sheet-written s l is =
+      let v = rw (l, s .count, s .marks) at w in record { answers = (rw (is, v .told), v .bytes); outcome = rw is }
 
 -- A FILE AS IT WAS READ
 module _ {f us vs xs ys : List ℕ} {number n k l : ℕ} (read : StockRead f us vs xs ys number n k l) (none : number ≡ 0) where
@@ -100,36 +102,33 @@ pub file-refused : (o : List ℕ) {f us vs xs ys : List ℕ} {number n k l : ℕ
     sheetFault f o ≡ number
 file-refused o {f} h read = file-fault f o h ∙ sym (read .says)
 
-module _ {f o : List ℕ} {t : Tally} {r : Answer} where
-  module _ {n : ℕ} (e : sheetFault f o ≡ n) (no : n ≡ 0 → ⊥) (is : r ≡ refusal n t) where
-    pub plan-refused : PlanAnswered f o t (r .told) o (r .tally)
+module _ {f o : List ℕ} {r : Answer} where
+  module _ {n : ℕ} (e : sheetFault f o ≡ n) (no : n ≡ 0 → ⊥) (is : r ≡ refusedBy n) where
+    pub plan-refused : PlanAnswered f o r o
     plan-refused =
         let z : eqb n 0 ≡ false = ne-eqb n 0 no in
         record {
           owes = (λ _. (rw (is, e, z), refl), λ y. absurd (no (sym e ∙ y)));
-          tallied = rw (is, e, z);
+          outcome = rw (is, e, z);
         }
 
-    pub sheet-refused : SheetAnswered f o t (r .told) o (r .tally)
+    pub sheet-refused : SheetAnswered f o r o
     sheet-refused =
         let z : eqb n 0 ≡ false = ne-eqb n 0 no in
-        record { told = rw (is, e, z); leaves = rw (e, z); tallied = rw (is, e, z) }
+        record { told = rw (is, e, z); leaves = rw (e, z); outcome = rw (is, e, z) }
 
   module _ (room : 2048 ≤ length o) {us vs xs ys : List ℕ} {number n k l : ℕ} (read : StockRead f us vs xs ys number n k l) (none : number ≡ 0)
-      {m : ℕ} (same : m ≡ n) {after : List ℕ} {size : ℕ} (is : r ≡ stockAnswer size t) where
-    pub plan-answered : PlanWritten (stockOf m (take k us) (take k vs) (take l xs) (take l ys)) o after size → PlanAnswered f o t (r .told) after (r .tally)
+      {m : ℕ} (same : m ≡ n) {after : List ℕ} where
+    pub plan-answered : PlanWritten (stockOf m (take k us) (take k vs) (take l xs) (take l ys)) o after r → PlanAnswered f o r after
     plan-answered w =
-        let e : sheetFault f o ≡ 0 = file-fault f o room ∙ accepted read none in
         let p : isPlan (stockIn f) (w .pairs) ≡ true = subst (λ (s : Stock). isPlan s (w .pairs) ≡ true) (stock-is read none m same) (w .plan) in
+        let e : sheetFault f o ≡ 0 = file-fault f o room ∙ accepted read none in
         let z : eqb (sheetFault f o) 0 ≡ true = rw e in
-        record {
-          owes = (λ y. true-false z y, λ _. (w .pairs, (p, (rw (is, w .written .told), w .written .bytes))));
-          tallied = rw (is, e);
-        }
+        record { owes = (λ y. true-false z y, λ _. (w .pairs, (p, w .answers))); outcome = rw z (w .outcome) }
 
-    pub sheet-answered : SheetWritten m (pairsOf k us vs) o after size → SheetAnswered f o t (r .told) after (r .tally)
+    pub sheet-answered : SheetWritten m (pairsOf k us vs) o after r → SheetAnswered f o r after
     sheet-answered w =
         let h = read .held none in
+        let v = rw (same, h .camerasAre, h .fitsAre) at (w .answers) in
         let e : sheetFault f o ≡ 0 = file-fault f o room ∙ accepted read none in
-        let v = rw (same, h .camerasAre, h .fitsAre) at (w .written) in
-        record { told = rw (is, e, v .told); leaves = rw e (v .bytes); tallied = rw (is, e) }
+        record { told = rw e (v .0); leaves = rw e (v .1); outcome = rw e (w .outcome) }

@@ -2,12 +2,13 @@
 -- 03's, with the verdict's lines).
 --   roomFault, answerFault, sheetFault, checkFault    the first question answered no, by call
 --   told                                              a call's result: its refusal, or 0 and the answer's size
---   raised, counted, tallied                          one more, where a count is not at its largest; of the counts named; by outcome
---   refusal                                           a refused call's result and tally
---   GraphOwes, graphTally                             a graph's answer: some path, or the canonical barrier
+--   largest, raised, counted, tallied                 a count's largest; one more below it; of the counts named; of the one that an outcome names
+--   Answers                                           a text is told, and stands at the buffer's front
+--   GraphOwes, graphOutcome, graphTally               a graph's answer, some path or the canonical barrier; what it comes to; the tally then
 --   checkPost, verdictLine                            the check's answer, and the line that says it
 --   PlanOwes                                          a stock's plan: which largest one is left free
---   sheetPost, sheetLeaves, stockTally                a stock's standing sheet
+--   sheetOfFile, sheetPost, sheetLeaves               a stock's standing sheet
+--   stockOutcome, stockTally                          what either comes to, and the tally then
 --   refusalLine                                       the line that says a refusal
 use mathlib.Core.Path.{_≡_}
 use mathlib.Core.Bool.{Bool, true, false, _&&_, not}
@@ -28,7 +29,6 @@ use Rattle.lanes.specs.declared.Tally.{Tally}
 use Rattle.lanes.specs.declared.Outcome.{Outcome}
 use Rattle.lanes.specs.declared.Outcome.the-variants.{Path, Barrier, Stock, Refusal}
 use Rattle.lanes.specs.declared.Told.{Told}
-use Rattle.lanes.specs.declared.Answer.{Answer}
 use Rattle.lanes.specs.declared.Verdict.{Verdict}
 use Rattle.lanes.specs.declared.Verdict.the-variants.{Refused, Yes, No}
 
@@ -65,10 +65,6 @@ tallied t Barrier = counted t false true false false
 tallied t Stock = counted t false false true false
 tallied t Refusal = counted t false false false true
 
--- a refused call, by value
-abbrev pub refusal : (number : ℕ) → Tally → Answer
-refusal n t = record { told = record { number = n; size = 0 }; tally = tallied t Refusal }
-
 -- A GRAPH: some regular path, or the canonical barrier; which path is left free
 abbrev pub answerFault : (file buffer : List ℕ) → ℕ
 answerFault f o = orElse (roomFault o) (graphFault f)
@@ -82,6 +78,9 @@ GraphOwes f o r v =
     (answerFault f o ≡ 0 →
     (hasPath (graphIn f) ≡ false → Answers (barrierText (canonical (graphIn f))) o r v) ×
     (hasPath (graphIn f) ≡ true → (is : List ℕ) × ((isWanted (graphIn f) is ≡ true) × Answers (pathText is) o r v)))
+
+abbrev pub graphOutcome : (file buffer : List ℕ) → Outcome
+graphOutcome f o = pick (eqb (answerFault f o) 0) (pick (hasPath (graphIn f)) Path Barrier) Refusal
 
 abbrev pub graphTally : (file buffer : List ℕ) → Tally → Tally
 graphTally f o t =
@@ -120,6 +119,9 @@ sheetPost f o = told (sheetFault f o) (length (sheetOfFile f))
 
 abbrev pub sheetLeaves : (file buffer : List ℕ) → List ℕ
 sheetLeaves f o = pick (eqb (sheetFault f o) 0) (over (sheetOfFile f) o) o
+
+abbrev pub stockOutcome : (file buffer : List ℕ) → Outcome
+stockOutcome f o = pick (eqb (sheetFault f o) 0) Stock Refusal
 
 abbrev pub stockTally : (file buffer : List ℕ) → Tally → Tally
 stockTally f o t = counted t false false (eqb (sheetFault f o) 0) (not (eqb (sheetFault f o) 0))

@@ -1,30 +1,23 @@
--- What the graph call answers, and what is written for an accepted graph (document 01, "The graph", "The barrier" and "Questions put to a call").
---   graphAnswer             a call's answer, by value: the size of what is written, and the tally
---   GraphWritten            some wanted path, or the canonical barrier where there is none, stands at the front of a buffer
---   GraphAnswered           what the call owes, in one record: result and buffer, tally
+-- What the graph call answers by value, and what is written for an accepted graph (document 01, "The graph", "The barrier" and "Questions put to a
+-- call").
+--   GraphWritten     some wanted path, or the canonical barrier where there is none, stands at the front of a buffer and is told
+--   GraphAnswered    what the call owes, in one record: result and buffer, and what it came to
 use mathlib.Core.Path.{_≡_}
-use mathlib.Core.Bool.{Bool, true, false}
+use mathlib.Core.Bool.{true, false}
 use mathlib.Core.List.{List}
-use Prim.Native.Nat.{ℕ, _≤_}
+use Prim.Native.Nat.{ℕ}
 use Rattle.counting.specs.Tests.{pick}
 use Rattle.skew.specs.Graph.{Graph, isWanted, hasPath, canonical}
 use Rattle.files.specs.CertificateFile.{pathText, barrierText}
-use Rattle.lanes.specs.Entry.{tallied, GraphOwes, graphTally}
-use Rattle.files.specs.Answers.{WrittenFirst}
-use Rattle.lanes.specs.declared.Tally.{Tally}
-use Rattle.lanes.specs.declared.Told.{Told}
+use Rattle.lanes.specs.Entry.{Answers, GraphOwes, graphOutcome}
 use Rattle.lanes.specs.declared.Answer.{Answer}
 use Rattle.lanes.specs.declared.Outcome.the-variants.{Path, Barrier}
 
-abbrev pub graphAnswer : (size : ℕ) → (found : Bool) → Tally → Answer
-graphAnswer k z t = record { told = record { number = 0; size = k }; tally = tallied t (pick z Path Barrier) }
+pub record GraphWritten (g : Graph) (before after : List ℕ) (r : Answer) : Type 0 where
+  pub path : hasPath g ≡ true → (is : List ℕ) × ((isWanted g is ≡ true) × Answers (pathText is) before (r .told) after)
+  pub barrier : hasPath g ≡ false → Answers (barrierText (canonical g)) before (r .told) after
+  pub outcome : r .outcome ≡ pick (hasPath g) Path Barrier
 
-pub record GraphWritten (g : Graph) (before after : List ℕ) (size : ℕ) (found : Bool) : Type 0 where
-  pub has : hasPath g ≡ found
-  pub path : found ≡ true → (is : List ℕ) × ((isWanted g is ≡ true) × WrittenFirst (pathText is) before after size)
-  pub barrier : found ≡ false → WrittenFirst (barrierText (canonical g)) before after size
-  pub small : size ≤ 2048
-
-pub record GraphAnswered (file buffer : List ℕ) (t : Tally) (answer : Told) (after : List ℕ) (t′ : Tally) : Type 0 where
-  pub owes : GraphOwes file buffer answer after
-  pub tallied : t′ ≡ graphTally file buffer t
+pub record GraphAnswered (file buffer : List ℕ) (r : Answer) (after : List ℕ) : Type 0 where
+  pub owes : GraphOwes file buffer (r .told) after
+  pub outcome : r .outcome ≡ graphOutcome file buffer

@@ -1,12 +1,14 @@
 -- What the calls' contracts and the promises cite.
---   Entry              what each call answers and leaves: result, buffer and tally
+--   Entry              what each call answers and leaves: result, buffer, what it comes to, and the tally
 --   Verdicts           the check's answer, part by part
---   GraphCalls         what the graph call answers, by value
---   StockCalls         what the stock calls answer, each in one record
+--   Calls              a refused call by value, and an answered one
+--   GraphCalls         what the graph call answers by value
+--   StockCalls         what the stock calls answer by value, each in one record
 --   Promise            what is promised of every file: demands 2 and 3, and the marked set
 --   BytePromise        five of them as document 03 states them
 pub mod Entry
 pub mod Verdicts
+pub mod Calls
 pub mod GraphCalls
 pub mod StockCalls
 pub mod Promise

@@ -1,20 +1,26 @@
-// The pairing engine's calls.
-//   graph_calls  a graph answered with a path or a barrier
-//   stock_calls  a stock answered with a plan or a standing sheet
-//   check        the call that checks a certificate
-//   counts       the tally, counted up
-pub mod check;
-pub mod counts;
+// The pairing engine's calls (document 01, "Questions put to a call"): a graph, a stock for a plan, a stock for a standing sheet, and the check.
+//   answer_graph, plan, sheet    answered in a lent buffer, and counted in a lent tally
+//   check                        a certificate judged; it lends no buffer and counts nothing
+//   graph_calls, stock_calls     the first three by value: what is told, and what it came to, uncounted
+//   calls                        what those share: a refused call, and an answered one
+//   tallies                      the tally counted up, by value and lent
+//   verdicts                     a certificate judged against a graph that was read
+mod calls;
 pub mod graph_calls;
 pub mod stock_calls;
+pub mod tallies;
+mod verdicts;
 
+use files::graphs::read_graph;
 use graph_calls::answer_graph_by;
 use stock_calls::plan_by;
 use stock_calls::sheet_by;
+use tallies::count;
+use verdicts::judge;
 ghost use mathlib.Core.Path.{_≡_};
-ghost use Rattle.lanes.specs.Entry.{GraphOwes, graphTally, PlanOwes, sheetPost, sheetLeaves, stockTally};
+ghost use Rattle.lanes.specs.Entry.{GraphOwes, graphTally, checkPost, PlanOwes, sheetPost, sheetLeaves, stockTally};
 
-// Counts of what the calls answered (document 01, "Questions put to a call"); a count at its largest stays there.
+// Counts of what the calls came to; a count at its largest stays there.
 pub struct Tally {
     pub paths: u32,
     pub barriers: u32,
@@ -36,10 +42,10 @@ pub struct Told {
     pub size: u32,
 }
 
-// What a call answers and the tally then, by value.
+// A call's result and what it came to, before it is counted.
 pub struct Answer {
     pub told: Told,
-    pub tally: Tally,
+    pub outcome: Outcome,
 }
 
 // The check's answer.
@@ -54,9 +60,9 @@ pub fn answer_graph(file: &[u8], out: &mut [u8], tally: &mut Tally) -> Told
     ensures { λ r. ⌜ GraphOwes (now (file .entry)) (now (out .entry)) r (now (out .exit)) ⌝ }
     ensures tally { λ r. ⌜ now (tally .exit) ≡ graphTally (now (file .entry)) (now (out .entry)) (now (tally .entry)) ⌝ }
 {
-    let r = answer_graph_by(file, out, *tally);
-    *tally = r.tally;
-    r.told
+    let answer = answer_graph_by(file, out);
+    count(tally, answer.outcome);
+    answer.told
 }
 
 // A stock answered with a plan: which largest one is left free.
@@ -64,9 +70,9 @@ pub fn plan(file: &[u8], out: &mut [u8], tally: &mut Tally) -> Told
     ensures { λ r. ⌜ PlanOwes (now (file .entry)) (now (out .entry)) r (now (out .exit)) ⌝ }
     ensures tally { λ r. ⌜ now (tally .exit) ≡ stockTally (now (file .entry)) (now (out .entry)) (now (tally .entry)) ⌝ }
 {
-    let r = plan_by(file, out, *tally);
-    *tally = r.tally;
-    r.told
+    let answer = plan_by(file, out);
+    count(tally, answer.outcome);
+    answer.told
 }
 
 // A stock answered with its standing sheet.
@@ -75,7 +81,22 @@ pub fn sheet(file: &[u8], out: &mut [u8], tally: &mut Tally) -> Told
     ensures out { λ r. ⌜ now (out .exit) ≡ sheetLeaves (now (file .entry)) (now (out .entry)) ⌝ }
     ensures tally { λ r. ⌜ now (tally .exit) ≡ stockTally (now (file .entry)) (now (out .entry)) (now (tally .entry)) ⌝ }
 {
-    let r = sheet_by(file, out, *tally);
-    *tally = r.tally;
-    r.told
+    let answer = sheet_by(file, out);
+    count(tally, answer.outcome);
+    answer.told
+}
+
+// A certificate checked: the graph's questions first, then the certificate's with 40 added, then whether it holds.
+pub fn check(graph: &[u8], cert: &[u8]) -> Verdict
+    ensures { λ r. ⌜ r ≡ checkPost (now (graph .entry)) (now (cert .entry)) ⌝ }
+{
+    let mut tails = [0u8; 8192];
+    let mut heads = [0u8; 8192];
+    let g = read_graph(graph, &mut tails, &mut heads);
+    let number = g.number;
+    if number != 0 {
+        return Verdict::Refused(number);
+    }
+    let arcs = g.arcs;
+    judge(cert, g.pairs, g.source, &tails[..arcs], &heads[..arcs])
 }

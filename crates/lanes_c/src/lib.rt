@@ -1,13 +1,19 @@
 // The engine's calls for C and Rust (document 01, "Questions put to a call"), over numbers and slices alone; include/lanes.h declares them for C.
+//   lanes_graph, lanes_plan, lanes_sheet, lanes_check    the calls
+//   tally_of, put_counts                                 four counts as a tally, and a tally as four counts
+//   count                                                one more of the count that an outcome names
+//   pack                                                 a call's result as one number
+use lanes::Outcome;
 use lanes::Tally;
 use lanes::Told;
 use lanes::Verdict;
-use lanes::check::check;
+use lanes::check;
 use lanes::graph_calls::answer_graph_by;
 use lanes::stock_calls::plan_by;
 use lanes::stock_calls::sheet_by;
+use lanes::tallies::counted;
 ghost use mathlib.Core.Path.{_≡_};
-ghost use Rattle.lanes.specs.Entry.{GraphOwes, PlanOwes, graphTally, stockTally, checkPost};
+ghost use Rattle.lanes.specs.Entry.{tallied, GraphOwes, PlanOwes, graphTally, stockTally, checkPost};
 ghost use Rattle.lanes_c.specs.Exported.{tallyOf, countsOf, packed, said, Called, SheetCalled};
 
 fn tally_of(counts: &[u32; 4]) -> Tally
@@ -27,6 +33,12 @@ fn put_counts(counts: &mut [u32; 4], tally: Tally)
     *counts = [tally.paths, tally.barriers, tally.stocks, tally.refusals];
 }
 
+fn count(counts: &mut [u32; 4], which: Outcome)
+    ensures { λ _. ⌜ now (counts .exit) ≡ countsOf (tallied (tallyOf (now (counts .entry))) which) ⌝ }
+{
+    put_counts(counts, counted(tally_of(counts), which));
+}
+
 fn pack(told: Told) -> u64
     ensures { λ r. ⌜ r ≡ packed told ⌝ }
 {
@@ -37,8 +49,9 @@ fn pack(told: Told) -> u64
 pub extern "C" fn lanes_graph(file: &[u8], out: &mut [u8], tally: &mut [u32; 4]) -> u64
     ensures { λ r. ⌜ Called (GraphOwes (now (file .entry)) (now (out .entry))) (graphTally (now (file .entry)) (now (out .entry)) (tallyOf (now (tally .entry)))) r (now (out .exit)) (now (tally .exit)) ⌝ }
 {
-    let answer = answer_graph_by(file, out, tally_of(tally));
-    put_counts(tally, answer.tally);
+    let answer = answer_graph_by(file, out);
+    let outcome = answer.outcome;
+    count(tally, outcome);
     pack(answer.told)
 }
 
@@ -46,8 +59,9 @@ pub extern "C" fn lanes_graph(file: &[u8], out: &mut [u8], tally: &mut [u32; 4])
 pub extern "C" fn lanes_plan(file: &[u8], out: &mut [u8], tally: &mut [u32; 4]) -> u64
     ensures { λ r. ⌜ Called (PlanOwes (now (file .entry)) (now (out .entry))) (stockTally (now (file .entry)) (now (out .entry)) (tallyOf (now (tally .entry)))) r (now (out .exit)) (now (tally .exit)) ⌝ }
 {
-    let answer = plan_by(file, out, tally_of(tally));
-    put_counts(tally, answer.tally);
+    let answer = plan_by(file, out);
+    let outcome = answer.outcome;
+    count(tally, outcome);
     pack(answer.told)
 }
 
@@ -55,8 +69,9 @@ pub extern "C" fn lanes_plan(file: &[u8], out: &mut [u8], tally: &mut [u32; 4]) 
 pub extern "C" fn lanes_sheet(file: &[u8], out: &mut [u8], tally: &mut [u32; 4]) -> u64
     ensures { λ r. ⌜ SheetCalled (now (file .entry)) (now (out .entry)) (now (tally .entry)) r (now (out .exit)) (now (tally .exit)) ⌝ }
 {
-    let answer = sheet_by(file, out, tally_of(tally));
-    put_counts(tally, answer.tally);
+    let answer = sheet_by(file, out);
+    let outcome = answer.outcome;
+    count(tally, outcome);
     pack(answer.told)
 }
 

@@ -1,10 +1,9 @@
 // What the programs print (document 01, "Questions put to a call": Programs), at the front of a lent buffer: an answer's lines, or the one line of a
 // refusal or of the check. Each function answers how many bytes there are to print.
 use frames::write::put_frame4;
-use lanes::Tally;
 use lanes::Told;
 use lanes::Verdict;
-use lanes::check::check;
+use lanes::check;
 use lanes::graph_calls::answer_graph_by;
 use lanes::stock_calls::plan_by;
 use lanes::stock_calls::sheet_by;
@@ -12,16 +11,6 @@ ghost use Prim.Native.Nat.{_≤_};
 ghost use lib.ListN.{length};
 ghost use Rattle.lanes.specs.Entry.{verdictLine};
 ghost use Rattle.lanes_print.specs.Printed.{Shows, Prints, PrintsOne, GraphText, PlanText, sheetPrinted, verdictPrinted};
-
-// No call counted yet.
-fn none_counted() -> Tally {
-    Tally {
-        paths: 0,
-        barriers: 0,
-        stocks: 0,
-        refusals: 0,
-    }
-}
 
 // An answer is printed as it stands; in a refusal's place its line.
 fn show(out: &mut [u8], told: Told) -> usize
@@ -50,7 +39,7 @@ pub fn print_graph(file: &[u8], out: &mut [u8]) -> usize
     requires { ⌜ 2048 ≤ length (now out) ⌝ }
     ensures { λ r. ⌜ Prints (GraphText (now (file .entry))) (now (out .entry)) (now (out .exit)) r ⌝ }
 {
-    let answer = answer_graph_by(file, out, none_counted());
+    let answer = answer_graph_by(file, out);
     show(out, answer.told)
 }
 
@@ -58,7 +47,7 @@ pub fn print_plan(file: &[u8], out: &mut [u8]) -> usize
     requires { ⌜ 2048 ≤ length (now out) ⌝ }
     ensures { λ r. ⌜ Prints (PlanText (now (file .entry))) (now (out .entry)) (now (out .exit)) r ⌝ }
 {
-    let answer = plan_by(file, out, none_counted());
+    let answer = plan_by(file, out);
     show(out, answer.told)
 }
 
@@ -66,7 +55,7 @@ pub fn print_sheet(file: &[u8], out: &mut [u8]) -> usize
     requires { ⌜ 2048 ≤ length (now out) ⌝ }
     ensures { λ r. ⌜ PrintsOne (sheetPrinted (now (file .entry))) (now (out .entry)) (now (out .exit)) r ⌝ }
 {
-    let answer = sheet_by(file, out, none_counted());
+    let answer = sheet_by(file, out);
     show(out, answer.told)
 }
 

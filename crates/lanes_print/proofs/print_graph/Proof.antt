@@ -5,9 +5,6 @@ use Rattle.lanes_print.proofs.Printing.{graph-prints}
 use Rattle.lanes_print.proofs.print_graph.Statement.{statement}
 use Rattle.lanes_print.proofs.print_graph.Tie as tie
 
-none-counted-requires : tie.Need-none-counted-requires
-none-counted-requires c κs = search needs
-
 answer-graph-by-requires : tie.Need-answer-graph-by-requires
 answer-graph-by-requires c κs = search needs
 
@@ -18,7 +15,7 @@ same-length : tie.Need-same-length
 same-length c = search needs
 
 returns : tie.Need-returns
-returns c = graph-prints (c .before .before .before .before .before .before .before .before .before .before .before .args .file .now) (omega arith) (c .before .before .before .before .before .before .answer-graph-by .ensures .owes) (c .before .before .show .ensures)
+returns c = graph-prints (c .before .before .before .before .before .before .before .before .before .before .args .file .now) (omega arith) (c .before .before .before .before .before .before .answer-graph-by .ensures .owes) (c .before .before .show .ensures)
 
 pub print-graph-spec : {M : Type 1} → statement M
-print-graph-spec = tie.close (tie.spec none-counted-requires answer-graph-by-requires show-requires same-length returns)
+print-graph-spec = tie.close (tie.spec answer-graph-by-requires show-requires same-length returns)

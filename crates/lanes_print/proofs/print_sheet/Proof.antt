@@ -5,9 +5,6 @@ use Rattle.lanes_print.proofs.Printing.{sheet-prints}
 use Rattle.lanes_print.proofs.print_sheet.Statement.{statement}
 use Rattle.lanes_print.proofs.print_sheet.Tie as tie
 
-none-counted-requires : tie.Need-none-counted-requires
-none-counted-requires c κs = search needs
-
 sheet-by-requires : tie.Need-sheet-by-requires
 sheet-by-requires c κs = search needs
 
@@ -18,7 +15,7 @@ same-length : tie.Need-same-length
 same-length c = search needs
 
 returns : tie.Need-returns
-returns c = sheet-prints (c .before .before .before .before .before .before .before .before .before .before .before .args .file .now) (omega arith) (c .before .before .before .before .before .before .sheet-by .ensures .told) (c .before .before .before .before .before .before .sheet-by .ensures .leaves) (c .before .before .show .ensures)
+returns c = sheet-prints (c .before .before .before .before .before .before .before .before .before .before .args .file .now) (omega arith) (c .before .before .before .before .before .before .sheet-by .ensures .told) (c .before .before .before .before .before .before .sheet-by .ensures .leaves) (c .before .before .show .ensures)
 
 pub print-sheet-spec : {M : Type 1} → statement M
-print-sheet-spec = tie.close (tie.spec none-counted-requires sheet-by-requires show-requires same-length returns)
+print-sheet-spec = tie.close (tie.spec sheet-by-requires show-requires same-length returns)

@@ -3,10 +3,14 @@ use mathlib.Core.Path.{sym}
 use native.Mathlib.Omega.{arith}
 use lib.ListN.{length-take}
 use lib.Seq.{length-take-le}
-use Rattle.lanes.proofs.StockCalls.{listed-few, plan-written}
+use Rattle.lanes.proofs.StockCalls.{listed-few, plan-small, plan-written}
 use borrow.Author.Needs.{needs}
 use Rattle.lanes.proofs.stock_calls.write_plan.Statement.{statement}
 use Rattle.lanes.proofs.stock_calls.write_plan.Tie as tie
+
+-- PLACE: the start, seen from where the row's pairs are listed
+abbrev start : tie.After-pairs-of → tie.Start
+start c = c .before .before .before .before .before .before .before .before .before .before .before .before .before .before
 
 plan-requires : tie.Need-plan-requires
 plan-requires c κs = search needs
@@ -22,24 +26,28 @@ pairs-of-requires c κs = search needs
 
 array-share-prefix-firsts : tie.Need-array-share-prefix-firsts
 array-share-prefix-firsts c =
-    omega (arith, (listed-few _ _ (omega (arith, c .before .before .before .before .before .before .before .before .before .before .before .before .before .before .before .before .before .pre .0 .cameras-few, c .before .before .before .before .before .before .before .before .row .given)) (c .before .before .before .pairs-of .ensures)))
+    let a = c .before .before .before in let few = listed-few _ _ (omega (arith, start a .pre .0 .cameras-few, a .before .before .before .before .before .row .given)) (a .pairs-of .ensures) in omega arith
 
 slice-aggregate-put-plan : tie.Need-slice-aggregate-put-plan
 slice-aggregate-put-plan c =
-    sym (length-take-le _ _ (omega (arith, (listed-few _ _ (omega (arith, c .before .before .before .before .before .before .before .before .before .before .before .before .before .before .before .before .before .before .pre .0 .cameras-few, c .before .before .before .before .before .before .before .before .before .row .given)) (c .before .before .before .before .pairs-of .ensures)))))
+    let a = c .before .before .before .before in let few = listed-few _ _ (omega (arith, start a .pre .0 .cameras-few, a .before .before .before .before .before .row .given)) (a .pairs-of .ensures) in sym (length-take-le _ _ (omega arith))
 
 array-share-prefix-seconds : tie.Need-array-share-prefix-seconds
 array-share-prefix-seconds c =
-    omega (arith, (listed-few _ _ (omega (arith, c .before .before .before .before .before .before .before .before .before .before .before .before .before .before .before .before .before .before .pre .0 .cameras-few, c .before .before .before .before .before .before .before .before .before .row .given)) (c .before .before .before .before .pairs-of .ensures)))
+    let a = c .before .before .before .before in let few = listed-few _ _ (omega (arith, start a .pre .0 .cameras-few, a .before .before .before .before .before .row .given)) (a .pairs-of .ensures) in omega arith
 
 slice-aggregate-put-plan-2 : tie.Need-slice-aggregate-put-plan-2
 slice-aggregate-put-plan-2 c =
-    sym (length-take-le _ _ (omega (arith, (listed-few _ _ (omega (arith, c .before .before .before .before .before .before .before .before .before .before .before .before .before .before .before .before .before .before .before .pre .0 .cameras-few, c .before .before .before .before .before .before .before .before .before .before .row .given)) (c .before .before .before .before .before .pairs-of .ensures)))))
+    let a = c .before .before .before .before .before in let few = listed-few _ _ (omega (arith, start a .pre .0 .cameras-few, a .before .before .before .before .before .row .given)) (a .pairs-of .ensures) in sym (length-take-le _ _ (omega arith))
 
 put-plan-requires : tie.Need-put-plan-requires
 put-plan-requires c κs =
-    let few = (listed-few _ _ (omega (arith, c .before .before .before .before .before .before .before .before .before .before .before .before .before .before .before .before .before .before .before .pre .0 .cameras-few, c .before .before .before .before .before .before .before .before .before .before .row .given)) (c .before .before .before .before .before .pairs-of .ensures)) in
+    let a = c .before .before .before .before .before in let few = listed-few _ _ (omega (arith, start a .pre .0 .cameras-few, a .before .before .before .before .before .row .given)) (a .pairs-of .ensures) in
     (simp length-take (omega arith), simp length-take (omega arith))
+
+answered-requires : tie.Need-answered-requires
+answered-requires c κs =
+    let a = c .before .before .before .before .before .before .before .before in plan-small _ _ (omega (arith, start a .pre .0 .cameras-few, a .before .before .before .before .before .row .given)) (a .pairs-of .ensures) (c .before .before .put-plan .ensures)
 
 same-length : tie.Need-same-length
 same-length c = search needs
@@ -49,7 +57,9 @@ same-length-2 c = search needs
 
 returns : tie.Need-returns
 returns c =
-    plan-written _ _ (omega (arith, c .before .before .before .before .before .before .before .before .before .before .before .before .before .before .before .before .before .before .before .before .before .before .pre .0 .cameras-few, c .before .before .before .before .before .before .before .before .before .before .before .before .before .row .given)) (c .before .before .before .before .before .before .before .before .pairs-of .ensures) _ (c .before .before .before .before .before .before .before .before .before .before .before .before .before .row .given) (c .before .before .before .before .before .before .before .before .before .before .before .before .before .before .plan .ensures) (c .before .before .put-plan .ensures)
+    let a = c .before .before .before .before .before .before .before .before .before in
+    let row = a .before .before .before .before .before in
+    plan-written _ _ (omega (arith, start a .pre .0 .cameras-few, row .row .given)) (a .pairs-of .ensures) (c .before .before .before .put-plan .ensures) _ (row .row .given) (row .before .plan .ensures) (c .answered .ensures)
 
 pub write-plan-spec : {M : Type 1} → statement M
 write-plan-spec =
@@ -64,6 +74,7 @@ write-plan-spec =
     array-share-prefix-seconds
     slice-aggregate-put-plan-2
     put-plan-requires
+    answered-requires
     same-length
     same-length-2
     returns)

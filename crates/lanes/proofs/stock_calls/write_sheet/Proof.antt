@@ -1,15 +1,26 @@
 -- `lanes::stock_calls::write_sheet` meets its contract: the marks and the number of pairs that the search tells, written.
 use native.Mathlib.Omega.{arith}
-use Rattle.lanes.proofs.StockCalls.{sheet-written}
+use Rattle.lanes.proofs.StockCalls.{sheet-small, sheet-written}
 use borrow.Author.Needs.{needs}
 use Rattle.lanes.proofs.stock_calls.write_sheet.Statement.{statement}
 use Rattle.lanes.proofs.stock_calls.write_sheet.Tie as tie
+
+-- PLACES: the start, seen from the search, and the search, seen from where its marks are back
+abbrev start : tie.After-sheet → tie.Start
+start c = c .before .before .before .before .before .before .before .before .before .before
+
+abbrev search-of : tie.After-marks → tie.After-sheet
+search-of c = c .before .before .before
 
 sheet-requires : tie.Need-sheet-requires
 sheet-requires c κs = search needs
 
 put-sheet-requires : tie.Need-put-sheet-requires
 put-sheet-requires c κs = search needs
+
+answered-requires : tie.Need-answered-requires
+answered-requires c κs =
+    let a = c .before .before .before .before .before .before in sheet-small _ _ (c .before .before .put-sheet .ensures) (omega (arith, a .marks .given, start (search-of a) .pre .1 .0, start (search-of a) .pre .0 .cameras-few))
 
 same-length : tie.Need-same-length
 same-length c = search needs
@@ -22,9 +33,16 @@ same-length-3 c = search needs
 
 returns : tie.Need-returns
 returns c =
-    sheet-written (c .before .before .before .before .before .before .before .before .before .before .before .before .before .before .before .before .before .before .before .pre .0 .cameras-few) (c .before .before .before .before .before .before .before .before .before .sheet .ensures) (c .before .before .put-sheet .ensures) (omega (arith, c .before .before .before .before .before .before .marks .given, c .before .before .before .before .before .before .before .before .before .before .before .before .before .before .before .before .before .before .before .pre .1 .0))
+    let a = c .before .before .before .before .before .before .before in sheet-written _ _ (c .before .before .before .put-sheet .ensures) (search-of a .sheet .ensures) (omega (arith, a .marks .given, start (search-of a) .pre .1 .0)) (c .answered .ensures)
 
 pub write-sheet-spec : {M : Type 1} → statement M
 write-sheet-spec =
     tie.close
-    (tie.spec sheet-requires put-sheet-requires same-length same-length-2 same-length-3 returns)
+    (tie.spec
+    sheet-requires
+    put-sheet-requires
+    answered-requires
+    same-length
+    same-length-2
+    same-length-3
+    returns)

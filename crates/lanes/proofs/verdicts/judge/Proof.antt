@@ -1,10 +1,10 @@
--- `lanes::check::judge` meets its contract: the answer by the file's first line is the certificate's.
+-- `lanes::verdicts::judge` meets its contract: the answer by the file's first line is the certificate's.
 use mathlib.Core.Path.{sym, _∙_}
 use Rattle.arcs.specs.Table.{graphOf}
-use Rattle.lanes.proofs.Verdicts.{barrier-verdict, path-verdict}
+use Rattle.lanes.proofs.Checks.{barrier-verdict, path-verdict}
 use borrow.Author.Needs.{needs}
-use Rattle.lanes.proofs.check.judge.Statement.{statement}
-use Rattle.lanes.proofs.check.judge.Tie as tie
+use Rattle.lanes.proofs.verdicts.judge.Statement.{statement}
+use Rattle.lanes.proofs.verdicts.judge.Tie as tie
 
 begins-barrier-requires : tie.Need-begins-barrier-requires
 begins-barrier-requires c κs = search needs

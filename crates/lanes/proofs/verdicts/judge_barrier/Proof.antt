@@ -1,14 +1,14 @@
--- `lanes::check::judge_barrier` meets its contract: a barrier refused, or judged by its stored classes.
+-- `lanes::verdicts::judge_barrier` meets its contract: a barrier refused, or judged by its stored classes.
 use mathlib.Core.Path.{refl, ap, sym, _∙_}
 use mathlib.Core.Bool.{Bool}
 use lib.Seq.{length-take-le}
 use Rattle.counting.specs.Tests.{pick}
 use Rattle.arcs.specs.Table.{graphOf}
 use Rattle.lanes.specs.declared.Verdict.the-variants.{Yes, No}
-use Rattle.lanes.proofs.Verdicts.{barrier-refused, barrier-judged}
+use Rattle.lanes.proofs.Checks.{barrier-refused, barrier-judged}
 use borrow.Author.Needs.{needs}
-use Rattle.lanes.proofs.check.judge_barrier.Statement.{statement}
-use Rattle.lanes.proofs.check.judge_barrier.Tie as tie
+use Rattle.lanes.proofs.verdicts.judge_barrier.Statement.{statement}
+use Rattle.lanes.proofs.verdicts.judge_barrier.Tie as tie
 
 slice-aggregate-read-barrier : tie.Need-slice-aggregate-read-barrier
 slice-aggregate-read-barrier c = search needs

@@ -1,11 +1,12 @@
-// The tally, counted up (document 01, "Questions put to a call"): by value, and where the caller lends it; and what a refused call answers.
-ghost use mathlib.Core.Path.{_≡_};
-ghost use mathlib.Core.Bool.{true};
-ghost use Rattle.lanes.specs.Entry.{raised, tallied, refusal};
-use crate::Answer;
+// The tally, counted up (document 01, "Questions put to a call").
+//   raise      one more, where a count is not at its largest
+//   counted    the tally by value, with one more of the count that an outcome names
+//   count      the same where the caller lends the tally
 use crate::Outcome;
 use crate::Tally;
-use crate::Told;
+ghost use mathlib.Core.Path.{_≡_};
+ghost use mathlib.Core.Bool.{true};
+ghost use Rattle.lanes.specs.Entry.{raised, tallied};
 
 // One more; a count at its largest stays there.
 fn raise(count: u32) -> u32
@@ -54,14 +55,4 @@ pub fn count(tally: &mut Tally, which: Outcome)
     ensures { λ _. ⌜ now (tally .exit) ≡ tallied (now (tally .entry)) which ⌝ }
 {
     *tally = counted(*tally, which);
-}
-
-// A refused call: the question's number, nothing written, one refusal more.
-pub fn refuse(number: u8, tally: Tally) -> Answer
-    ensures { λ r. ⌜ r ≡ refusal number tally ⌝ }
-{
-    Answer {
-        told: Told { number, size: 0 },
-        tally: counted(tally, Outcome::Refusal),
-    }
 }

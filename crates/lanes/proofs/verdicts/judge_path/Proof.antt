@@ -1,4 +1,4 @@
--- `lanes::check::judge_path` meets its contract: a path refused, or judged by its stored arc numbers.
+-- `lanes::verdicts::judge_path` meets its contract: a path refused, or judged by its stored arc numbers.
 use mathlib.Core.Path.{ap, sym, _∙_}
 use mathlib.Core.Bool.{Bool}
 use lib.Seq.{length-take-le}
@@ -6,10 +6,10 @@ use Rattle.counting.specs.Tests.{pick}
 use Rattle.arcs.specs.Table.{graphOf}
 use Rattle.arcs.proofs.Tables.{arcs-length}
 use Rattle.lanes.specs.declared.Verdict.the-variants.{Yes, No}
-use Rattle.lanes.proofs.Verdicts.{path-refused, path-judged}
+use Rattle.lanes.proofs.Checks.{path-refused, path-judged}
 use borrow.Author.Needs.{needs}
-use Rattle.lanes.proofs.check.judge_path.Statement.{statement}
-use Rattle.lanes.proofs.check.judge_path.Tie as tie
+use Rattle.lanes.proofs.verdicts.judge_path.Statement.{statement}
+use Rattle.lanes.proofs.verdicts.judge_path.Tie as tie
 
 slice-aggregate-read-path : tie.Need-slice-aggregate-read-path
 slice-aggregate-read-path c = search needs

@@ -1,9 +1,9 @@
--- `lanes::counts::raise` meets its contract.
+-- `lanes::tallies::raise` meets its contract.
 use borrow.Author.Tests.{lt-ltb, le-ltb}
 use native.Mathlib.Numerals.{add-one}
 use borrow.Author.Needs.{needs}
-use Rattle.lanes.proofs.counts.raise.Statement.{statement}
-use Rattle.lanes.proofs.counts.raise.Tie as tie
+use Rattle.lanes.proofs.tallies.raise.Statement.{statement}
+use Rattle.lanes.proofs.tallies.raise.Tie as tie
 
 add-result : tie.Need-add-result
 add-result c = search needs

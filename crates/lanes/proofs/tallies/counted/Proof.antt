@@ -1,7 +1,7 @@
--- `lanes::counts::counted` meets its contract.
+-- `lanes::tallies::counted` meets its contract.
 use borrow.Author.Needs.{needs}
-use Rattle.lanes.proofs.counts.counted.Statement.{statement}
-use Rattle.lanes.proofs.counts.counted.Tie as tie
+use Rattle.lanes.proofs.tallies.counted.Statement.{statement}
+use Rattle.lanes.proofs.tallies.counted.Tie as tie
 
 enum-told : tie.Need-enum-told
 enum-told c = search needs

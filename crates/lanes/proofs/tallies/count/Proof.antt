@@ -1,4 +1,4 @@
--- `lanes::counts::count` meets its contract: a walk of its MIR, by hand. The borrow is opened, the tally is copied out and passed by value to `counted`,
+-- `lanes::tallies::count` meets its contract: a walk of its MIR, by hand. The borrow is opened, the tally is copied out and passed by value to `counted`,
 -- the result is stored, and the borrow is closed.
 use mathlib.Core.Path.{_≡_, refl}
 use Prim.Native.Nat.{ℕ}
@@ -43,14 +43,14 @@ use Rattle.lanes.proofs.Outcome as O
 use Rattle.lanes.proofs.Outcome.Laws as O′
 use Rattle.lanes.proofs.Tally as T
 use Rattle.lanes.proofs.Tally.Laws as T′
-use Rattle.lanes.proofs.counts.counted as counted
-use Rattle.lanes.proofs.counts.counted.Symbol as counted-def
-use Rattle.lanes.proofs.counts.counted.Symbol.{name as #lanes·counts·counted}
-use Rattle.lanes.proofs.counts.counted.Met as counted-thm
-use Rattle.lanes.proofs.counts.count.Key.{name as #lanes·counts·count}
-use Rattle.lanes.proofs.counts.count as count
-use Rattle.lanes.proofs.counts.count.Statement as stated
-use Rattle.lanes.proofs.counts.count.Code as code
+use Rattle.lanes.proofs.tallies.counted as counted
+use Rattle.lanes.proofs.tallies.counted.Symbol as counted-def
+use Rattle.lanes.proofs.tallies.counted.Symbol.{name as #lanes·tallies·counted}
+use Rattle.lanes.proofs.tallies.counted.Met as counted-thm
+use Rattle.lanes.proofs.tallies.count.Key.{name as #lanes·tallies·count}
+use Rattle.lanes.proofs.tallies.count as count
+use Rattle.lanes.proofs.tallies.count.Statement as stated
+use Rattle.lanes.proofs.tallies.count.Code as code
 
 abbrev stayed : Stays (count.ended .signature .params) (count.ended .kept)
 stayed = (stay-ref (0 ∷ []) tt (plain (λ _. T.the-row)), (stay-none (λ _. O.the-row) yes, tt))
@@ -93,7 +93,7 @@ module _ {M : Type 1} (𝓤 : URA M) (H : Heap 𝓤) (A : Atoms 𝓤) (W : Given
       qed W (‵ ftrue ∷ []) ∵ nothing ! $ owned ! O.the-row (Is O.the-row) (EL.makes O.the-type O′.the-plain 𝓤 H A) w _ named-by $ fjoin ! $
       owned ! T.the-row (Is T.the-row) (LL.makes T.the-type T′.the-plain 𝓤 H A) h _ was $ fjoin ! $ move ! (1 ∷ 0 ∷ []) $ join ! $ frame ! $ done !
 
-  module _ (C : Calls 𝓤 H) (Λ : Loops 𝓤 H) (fm : FmC 𝓤 H (W .laws) C) (known : Triple 𝓤 (C #lanes·counts·counted) (Counted 𝓤 H A at-mem run)) where
+  module _ (C : Calls 𝓤 H) (Λ : Loops 𝓤 H) (fm : FmC 𝓤 H (W .laws) C) (known : Triple 𝓤 (C #lanes·tallies·counted) (Counted 𝓤 H A at-mem run)) where
     walk : ent 𝓤 (onEntry 𝓤 H A count.signature (κ, tt) (q, tt) x at) (WpFn 𝓤 H C Λ code.function (vptr b o ∷ which ∷ []) Post)
     walk =
         qed W ((‵ (flft κ q) ⊛ ‵ ftrue) ∷ ‵ (owns (MutRef (named 0) κ T.the-row ∷ O.the-row ∷ []) x at) ∷ []) ∵ split ! $ move ! (2 ∷ []) $ fsplit ! $ move ! (1 ∷ []) $ fsplit ! $
@@ -120,14 +120,14 @@ module _ {M : Type 1} (𝓤 : URA M) (H : Heap 𝓤) (A : Atoms 𝓤) (W : Given
         keep ! (0 ∷ 1 ∷ 2 ∷ []) $ by ! (exits r e named-by)))))))))))))
 
 module _ {M : Type 1} (𝓤 : URA M) (H : Heap 𝓤) (A : Atoms 𝓤) (W : Given 𝓤 H A) (at-mem : Memory → SProp 𝓤) (run : Routine → Fun 𝓤) where
-  count-walks : (C : Calls 𝓤 H) (Λ : Loops 𝓤 H) → FmC 𝓤 H (W .laws) C → Triple 𝓤 (C #lanes·counts·counted) (Counted 𝓤 H A at-mem run) → Walks 𝓤 H A count.ended stayed (WpFn 𝓤 H C Λ code.function) (count.clauses 𝓤 H A at-mem run)
+  count-walks : (C : Calls 𝓤 H) (Λ : Loops 𝓤 H) → FmC 𝓤 H (W .laws) C → Triple 𝓤 (C #lanes·tallies·counted) (Counted 𝓤 H A at-mem run) → Walks 𝓤 H A count.ended stayed (WpFn 𝓤 H C Λ code.function) (count.clauses 𝓤 H A at-mem run)
   count-walks C Λ fm known = walked 𝓤 H A count.ended stayed (count.clauses 𝓤 H A at-mem run) (WpFn 𝓤 H C Λ code.function) (λ κs. (ptr-vals, (EL.vals O.the-type O′.the-laws, tt))) (λ κs. (mut-tells (named 0) (κs .0) T.the-row, (EL.tells O.the-type O′.the-laws, tt)))
       (λ κs qs bounds a _ _. via 𝓤 _ (fst∗ 𝓤 _ (emp 𝓤)) (walk 𝓤 H A W at-mem run (κs .0) (qs .0) (a .0 .ptr .0) (a .0 .ptr .1) (a .0 .name) (a .0 .now) (a .1 .0) C Λ fm known))
 
   goes : AllGo 𝓤 H A W 1 (count.signature .params) (count.ended .kept) stayed
   goes = (goes-ref 𝓤 H A W 1 0 tt (plain (λ _. T.the-row)), (goes-none 𝓤 H A W 1 (λ _. O.the-row) yes (λ κs x f. refl), tt))
 
-count-meets : {M : Type 1} (𝓤 : URA M) (H : Heap 𝓤) (A : Atoms 𝓤) → Given 𝓤 H A → (at-mem : Memory → SProp 𝓤) (run : Routine → Fun 𝓤) (𝓣 : Tables 𝓤 H) → Triple 𝓤 (𝓣 .C #lanes·counts·counted) (Counted 𝓤 H A at-mem run)
+count-meets : {M : Type 1} (𝓤 : URA M) (H : Heap 𝓤) (A : Atoms 𝓤) → Given 𝓤 H A → (at-mem : Memory → SProp 𝓤) (run : Routine → Fun 𝓤) (𝓣 : Tables 𝓤 H) → Triple 𝓤 (𝓣 .C #lanes·tallies·counted) (Counted 𝓤 H A at-mem run)
     → Meets 𝓤 H A count.signature (WpFn 𝓤 H (𝓣 .C) (𝓣 .Λ) code.function) (count.spec 𝓤 H A at-mem run)
 count-meets 𝓤 H A W at-mem run 𝓣 known = walk-meets 𝓤 H A count.ended stayed W (goes 𝓤 H A W at-mem run) (count.clauses 𝓤 H A at-mem run) (WpFn 𝓤 H (𝓣 .C) (𝓣 .Λ) code.function) (WpFn-mono 𝓤 H (W .laws) 𝓣 code.function) (count-walks 𝓤 H A W at-mem run (𝓣 .C) (𝓣 .Λ) (fmOf 𝓤 H (W .laws) 𝓣) known)
 
@@ -135,6 +135,6 @@ pub count-spec : {M : Type 1} → stated.statement M
 unfolding code.routine tablesOf
 count-spec 𝓤 H 𝓜 𝓖 𝓡 =
     entered 𝓤 H (tripleOf 𝓤 H (𝓖 .A) count.signature (count.spec 𝓤 H (𝓖 .A) (𝓜 .mem) (𝓡 .run)))
-    (tables 𝓤 H 𝓜 𝓡 code.env .C) (tables 𝓤 H 𝓜 𝓡 code.env .Λ) #lanes·counts·count code.function (code.unfolded 𝓤 H 𝓜 𝓡)
+    (tables 𝓤 H 𝓜 𝓡 code.env .C) (tables 𝓤 H 𝓜 𝓡 code.env .Λ) #lanes·tallies·count code.function (code.unfolded 𝓤 H 𝓜 𝓡)
     (count-meets 𝓤 H (𝓖 .A) (givenOf 𝓤 H 𝓜 𝓖) (𝓜 .mem) (𝓡 .run) (tablesOf 𝓤 H 𝓜 (tables 𝓤 H 𝓜 𝓡 code.env))
-    (cited 𝓤 H (Counted 𝓤 H (𝓖 .A) (𝓜 .mem) (𝓡 .run)) 𝓜 𝓡 code.env #lanes·counts·counted counted-def.routine code.calls-lanes·counts·counted (counted-thm.met 𝓤 H 𝓜 𝓖 𝓡)))
+    (cited 𝓤 H (Counted 𝓤 H (𝓖 .A) (𝓜 .mem) (𝓡 .run)) 𝓜 𝓡 code.env #lanes·tallies·counted counted-def.routine code.calls-lanes·tallies·counted (counted-thm.met 𝓤 H 𝓜 𝓖 𝓡)))

@@ -1,8 +1,8 @@
--- `lanes::check::refused` meets its contract: 40 is added.
+-- `lanes::verdicts::refused` meets its contract: 40 is added.
 use mathlib.Core.Path.{refl}
 use native.Mathlib.Omega.{arith}
-use Rattle.lanes.proofs.check.refused.Statement.{statement}
-use Rattle.lanes.proofs.check.refused.Tie as tie
+use Rattle.lanes.proofs.verdicts.refused.Statement.{statement}
+use Rattle.lanes.proofs.verdicts.refused.Tie as tie
 
 add-t2 : tie.Need-add-t2
 add-t2 c = omega arith

@@ -1,11 +1,11 @@
--- `lanes::check::check` meets its contract: the graph refused, or the certificate judged over the graph that was read.
+-- `lanes::check` meets its contract: the graph refused, or the certificate judged over the graph that was read.
 use mathlib.Core.Path.{sym, _∙_}
 use lib.Seq.{length-take-le}
 use Rattle.files.proofs.ArcTables.{held-table}
-use Rattle.lanes.proofs.Verdicts.{check-refused, check-judged}
+use Rattle.lanes.proofs.Checks.{check-refused, check-judged}
 use borrow.Author.Needs.{needs}
-use Rattle.lanes.proofs.check.check.Statement.{statement}
-use Rattle.lanes.proofs.check.check.Tie as tie
+use Rattle.lanes.proofs.check.Statement.{statement}
+use Rattle.lanes.proofs.check.Tie as tie
 
 slice-aggregate-read-graph : tie.Need-slice-aggregate-read-graph
 slice-aggregate-read-graph c = search needs

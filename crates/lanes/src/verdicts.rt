@@ -1,8 +1,10 @@
-// The check (document 01, "Questions put to a call"): the graph's questions first, then the certificate's with 40 added, then whether it holds.
+// A certificate judged against a graph that was read (document 01, "Questions put to a call"): its questions, with 40 added, then whether it holds.
+//   judge                        a barrier or a path
+//   judge_path, judge_barrier    each
+//   refused, judged              what is said where a question is answered no, and past the questions
 use crate::Verdict;
 use files::certificates::read_barrier;
 use files::certificates::read_path;
-use files::graphs::read_graph;
 use frames::write::begins_barrier;
 use judging::barrier::is_barrier;
 use judging::path::is_wanted;
@@ -10,7 +12,6 @@ ghost use mathlib.Core.Path.{_≡_};
 ghost use Prim.Native.Nat.{_+_, _≤_};
 ghost use Rattle.counting.specs.Tests.{pick};
 ghost use Rattle.arcs.specs.Table.{graphOf, ArcTable};
-ghost use Rattle.lanes.specs.Entry.{checkPost};
 ghost use Rattle.lanes.specs.Verdicts.{pathVerdict, barrierVerdict, certVerdict};
 ghost use Rattle.lanes.specs.declared.Verdict.the-variants.{Refused, Yes, No};
 
@@ -59,7 +60,7 @@ fn judge_barrier(cert: &[u8], pairs: usize, source: usize, tails: &[u8], heads: 
 }
 
 // A file that begins with the line 31 is read as a barrier, any other as a path.
-fn judge(cert: &[u8], pairs: usize, source: usize, tails: &[u8], heads: &[u8]) -> Verdict
+pub fn judge(cert: &[u8], pairs: usize, source: usize, tails: &[u8], heads: &[u8]) -> Verdict
     requires { ⌜ ArcTable pairs source (now tails) (now heads) ⌝ }
     ensures { λ r. ⌜ r ≡ certVerdict (graphOf pairs source (now (tails .entry)) (now (heads .entry))) (now (cert .entry)) ⌝ }
 {
@@ -67,18 +68,4 @@ fn judge(cert: &[u8], pairs: usize, source: usize, tails: &[u8], heads: &[u8]) -
         return judge_barrier(cert, pairs, source, tails, heads);
     }
     judge_path(cert, pairs, source, tails, heads)
-}
-
-pub fn check(graph: &[u8], cert: &[u8]) -> Verdict
-    ensures { λ r. ⌜ r ≡ checkPost (now (graph .entry)) (now (cert .entry)) ⌝ }
-{
-    let mut tails = [0u8; 8192];
-    let mut heads = [0u8; 8192];
-    let g = read_graph(graph, &mut tails, &mut heads);
-    let number = g.number;
-    if number != 0 {
-        return Verdict::Refused(number);
-    }
-    let arcs = g.arcs;
-    judge(cert, g.pairs, g.source, &tails[..arcs], &heads[..arcs])
 }

@@ -1,0 +1,19 @@
+-- `lanes_c::count` meets its contract.
+use borrow.Author.Needs.{needs}
+use Rattle.lanes_c.proofs.count.Statement.{statement}
+use Rattle.lanes_c.proofs.count.Tie as tie
+
+tally-of-requires : tie.Need-tally-of-requires
+tally-of-requires c κs = search needs
+
+counted-requires : tie.Need-counted-requires
+counted-requires c κs = search needs
+
+put-counts-requires : tie.Need-put-counts-requires
+put-counts-requires c κs = search needs
+
+returns : tie.Need-returns
+returns c = rw (c .put-counts .ensures, c .before .counted .ensures, c .before .before .tally-of .ensures)
+
+pub count-spec : {M : Type 1} → statement M
+count-spec = tie.close (tie.spec tally-of-requires counted-requires put-counts-requires returns)
