@@ -34,7 +34,7 @@ uint64_t lanes_plan(const uint8_t *file, size_t file_size, uint8_t *out, size_t 
 /* A stock file: its standing sheet, the greatest number of pairs and a mark for each camera. */
 uint64_t lanes_sheet(const uint8_t *file, size_t file_size, uint8_t *out, size_t out_size, uint32_t tally[4]);
 
-/* A graph file and a certificate, a path or a barrier: 1 for yes, 0 for no, otherwise the refusal: the graph's number (2 to 10), or the
+/* A graph file and a certificate, a path or a barrier: 1 for yes, 0 for no, otherwise the refusal, which is 2 or more: the graph's number (2 to 10), or the
  * certificate's with 40 added. */
 uint8_t lanes_check(const uint8_t *graph, size_t graph_size, const uint8_t *certificate, size_t certificate_size);
 

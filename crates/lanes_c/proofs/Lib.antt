@@ -1,5 +1,5 @@
 -- The laws, by subject.
 --   Tallies    the four counts that a call leaves
---   Refusals   a refused check is told from yes and no by its number
+--   Refusals   what the check says tells its verdicts, and a refusal from them
 pub mod Tallies
 pub mod Refusals

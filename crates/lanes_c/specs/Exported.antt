@@ -1,14 +1,16 @@
 -- What an exported call returns and leaves: document 01's results as numbers, and its tally as four counts.
 --   tallyOf, countsOf                                 the tally that four counts are, and the counts of a tally: paths, barriers, stocks, refusals
 --   packed told                                       a call's result: its number in the lowest byte, its size above
---   said verdict                                      the check's: 1 for yes, 0 for no, otherwise the refusal, which is never below 2
+--   said verdict                                      the check's: 1 for yes, 0 for no, otherwise the refusal
+--   SaysWhich verdict, CheckTells                     1 is said of yes alone and 0 of no alone, a refusal is 2 or more; so it is of every verdict of the check
 --   Called Owes tally result after counts             a call whose answer is left free: what it tells and leaves is owed, and the tally is as given
 --   SheetCalled file before counts result after new   the call that writes a standing sheet
 use mathlib.Core.Path.{_≡_}
+use mathlib.Core.Logic.{_↔_}
 use mathlib.Core.List.{List, [], _∷_}
-use Prim.Native.Nat.{ℕ, _+_, _*_}
+use Prim.Native.Nat.{ℕ, _+_, _*_, _≤_}
 use lib.ListN.{getD}
-use Rattle.lanes.specs.Entry.{sheetPost, sheetLeaves, stockTally}
+use Rattle.lanes.specs.Entry.{checkPost, sheetPost, sheetLeaves, stockTally}
 use Rattle.lanes.specs.declared.Tally.{Tally}
 use Rattle.lanes.specs.declared.Told.{Told}
 use Rattle.lanes.specs.declared.Verdict.{Verdict}
@@ -27,6 +29,13 @@ abbrev pub said : Verdict → ℕ
 said (Refused n) = n
 said Yes = 1
 said No = 0
+
+abbrev pub SaysWhich : Verdict → Type 0
+SaysWhich v =
+    ((said v ≡ 1) ↔ (v ≡ Yes)) × ((said v ≡ 0) ↔ (v ≡ No)) × ((n : ℕ) → v ≡ Refused n → (said v ≡ n) × (2 ≤ n))
+
+abbrev pub CheckTells : Type 0
+CheckTells = (graph cert : List ℕ) → SaysWhich (checkPost graph cert)
 
 pub record Called (Owes : Told → List ℕ → Type 0) (t : Tally) (result : ℕ) (after counts : List ℕ) : Type 0 where
   pub told : Told
