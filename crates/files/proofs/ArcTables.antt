@@ -8,8 +8,8 @@ use native.Mathlib.Omega.{arith}
 use lib.ListN.{length, take}
 use lib.Seq.{length-take-le}
 use Rattle.counting.specs.Pairs.{Pair}
+use Rattle.counting.proofs.Zips.{zip-length}
 use Rattle.arcs.specs.Table.{graphOf, ArcTable}
-use Rattle.arcs.proofs.Tables.{arcs-length, arcs-zip}
 use Rattle.skew.specs.Graph.{Graph}
 use Rattle.skew.specs.Paths.{WellFormed}
 use Rattle.files.specs.GraphFile.{graphIn, graphFault}
@@ -25,13 +25,13 @@ module _ {f ts hs : List ℕ} {p s n : ℕ} (g : GraphHeld f ts hs p s n) where
   as-long = length-take-le n hs (g .room .second) ∙ sym (length-take-le n ts (g .room .first))
 
   pub held-graph : graphOf p s (take n ts) (take n hs) ≡ graphIn f
-  held-graph = graph-same (g .pairsAre) (g .sourceIs) (arcs-zip (take n ts) (take n hs) as-long ∙ g .arcsAre)
+  held-graph = graph-same (g .pairsAre) (g .sourceIs) (g .arcsAre)
 
   pub held-table : graphFault f ≡ 0 → ArcTable p s (take n ts) (take n hs)
   held-table e =
       let few = graph-few f e in
       let a : length (take n ts) ≡ length (graphIn f .arcs) =
-      sym (arcs-length (take n ts) (take n hs)) ∙ ap (λ (x : Graph). length (x .arcs)) held-graph in
+      sym (zip-length (take n ts) (take n hs) as-long) ∙ ap (λ (x : Graph). length (x .arcs)) held-graph in
       record {
         well-formed = subst (λ (x : Graph). WellFormed x) (sym held-graph) (accepted-graph f e);
         as-long = as-long;
