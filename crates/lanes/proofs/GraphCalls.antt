@@ -4,23 +4,25 @@
 --   path-small, barrier-small               the answer that is written of it is short
 --   path-written, barrier-written           and is what is owed of the graph
 --   room-refused, file-refused              question 1 refuses, or one of the file's
---   read-table, read-few, read-answered     none does: the graph as it was read, and what is owed of it
+--   read-table, read-room, read-few         none does: the graph as it was read
+--   read-answered                           and what is owed of it
 use mathlib.Core.Path.{_≡_, refl, sym, subst, _∙_}
 use mathlib.Core.Bool.{true, false}
 use mathlib.Core.List.{List, [], _∷_}
 use Prim.Native.Nat.{ℕ, suc, _+_, _*_, _≤_, _<_}
 use native.Mathlib.Omega.{arith}
-use lib.Dec.{eqb, ltb}
+use lib.Dec.{eqb}
 use borrow.Author.Tests.{eqb-true, ne-eqb, le-leb, lt-leb}
-use lib.ListN.{length, getD, take, length-append}
-use lib.Seq.{length-take-le}
+use lib.ListN.{length, take, length-append}
+use lib.Seq.{length-sets, length-take-le}
 use Rattle.counting.proofs.Booleans.{and-left, and-right, true-false}
 use Rattle.frames.proofs.Writes.{hexBytes-length}
 use Rattle.arcs.specs.Table.{graphOf, ArcTable}
 use Rattle.search.specs.Answer.{Answered}
+use Rattle.search.proofs.Answers.{wanted-front}
 use Rattle.search.specs.declared.answer.Answer as search
-use Rattle.search.specs.declared.answer.Answer.the-variants.{Path, Barrier}
-use Rattle.skew.specs.Graph.{Graph, mate, isRegular, isWanted, isReachable, hasPath, canonical}
+use Rattle.search.specs.declared.answer.Answer.the-variants.{Path, NoPath}
+use Rattle.skew.specs.Graph.{Graph, mate, isRegular, isWanted, hasPath, canonical}
 use Rattle.skew.specs.Paths.{WellFormed}
 use Rattle.skew.proofs.Promise.{reaches-by-paths}
 use Rattle.files.specs.GraphFile.{graphIn, graphFault}
@@ -28,6 +30,7 @@ use Rattle.files.specs.CertificateFile.{pathLines, pathText, classLines, barrie
 use Rattle.lanes.specs.Entry.{answerFault}
 use Rattle.lanes.specs.Calls.{refusedBy, answeredBy}
 use Rattle.files.specs.Answers.{WrittenFirst}
+use Rattle.files.specs.Tables.{Holds}
 use Rattle.files.specs.Readers.{GraphRead}
 use Rattle.files.proofs.ArcTables.{held-graph, held-table}
 use Rattle.lanes.specs.GraphCalls.{GraphWritten, GraphAnswered}
@@ -64,19 +67,18 @@ pub record Found (g : Graph) (p : List ℕ) (k : ℕ) : Type 0 where
   pub wanted : isWanted g (take k p) ≡ true
 
 module _ {n s : ℕ} {ts hs : List ℕ} (T : ArcTable n s ts hs) where
-  pub path-found : (a : search.Answer) (p rs cs : List ℕ) (k : ℕ) → a ≡ Path k → Answered (graphOf n s ts hs) a p rs cs → 2 * n ≤ length p →
-      Found (graphOf n s ts hs) p k
-  path-found a p rs cs k e h l =
-      let r : (k < 2 * n) × (isWanted (graphOf n s ts hs) (take k p) ≡ true) = subst (λ (x : search.Answer). Answered (graphOf n s ts hs) x p rs cs) e h in
-      let i : k ≤ length p = omega (arith, r .0) in
-      record { inside = i; long = length-take-le k p i; few = omega (arith, r .0, T .pairs-few); wanted = r .1 }
+  pub path-found : (a : search.Answer) (p p′ cs cs′ : List ℕ) (k : ℕ) → a ≡ Path k → Answered (graphOf n s ts hs) a p p′ cs cs′ → 2 * n ≤ length p →
+      Found (graphOf n s ts hs) p′ k
+  path-found a p p′ cs cs′ k e h l =
+      let W = subst (λ (x : search.Answer). Answered (graphOf n s ts hs) x p p′ cs cs′) e h .0 in
+      let short = W .few in
+      let i : k ≤ length p′ = rw (W .written, length-sets p 0 (W .arcs)) (omega arith) in
+      record { inside = i; long = length-take-le k p′ i; few = omega (arith, T .pairs-few); wanted = wanted-front W (omega arith) }
 
-  pub barrier-found : (a : search.Answer) (p rs cs : List ℕ) → a ≡ Barrier → Answered (graphOf n s ts hs) a p rs cs →
-      (hasPath (graphOf n s ts hs) ≡ false) × (cs ≡ canonical (graphOf n s ts hs))
-  barrier-found a p rs cs e h =
-      let r : (hasPath (graphOf n s ts hs) ≡ false) × ((v : ℕ) → isReachable (graphOf n s ts hs) v ≡ ltb 0 (getD rs v 0)) × (cs ≡ canonical (graphOf n s ts hs)) =
-      subst (λ (x : search.Answer). Answered (graphOf n s ts hs) x p rs cs) e h in
-      (r .0, r .2)
+  pub barrier-found : (a : search.Answer) (p p′ cs cs′ : List ℕ) → a ≡ NoPath → Answered (graphOf n s ts hs) a p p′ cs cs′ →
+      (hasPath (graphOf n s ts hs) ≡ false) × (cs′ ≡ canonical (graphOf n s ts hs))
+  barrier-found a p p′ cs cs′ e h =
+      let r = subst (λ (x : search.Answer). Answered (graphOf n s ts hs) x p p′ cs cs′) e h in (r .0, r .2)
 
   module _ {p before after : List ℕ} {k size : ℕ} (h : Found (graphOf n s ts hs) p k) (w : WrittenFirst (pathText (take k p)) before after size) where
     pub path-small : size ≤ 2048
@@ -136,6 +138,9 @@ module _ {f ts hs : List ℕ} {number pairs source arcs : ℕ} (h : GraphRead f 
 
   pub read-table : ArcTable pairs source (take arcs ts) (take arcs hs)
   read-table = held-table (h .held e) read-fault
+
+  pub read-room : Holds arcs ts hs
+  read-room = h .held e .room
 
   pub read-few : pairs ≤ 128
   read-few = read-table .pairs-few

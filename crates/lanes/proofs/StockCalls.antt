@@ -1,34 +1,34 @@
 -- What the stock calls answer: the questions of a file settle what a search takes, and what is written is what they owe.
---   pairs-few, listed-few             a row has no more pairs than cameras, and at most 127
+--   listed-few                        a plan has at most 63 pairs
 --   plan-small, sheet-small           what is written is short
 --   plan-written, sheet-written       and is what is owed of the stock
---   cameras-few, stock-table          an accepted file as it was read: what a search takes
+--   fits-room, lit-room, cameras-few  an accepted file as it was read: its pairs stand in the tables, and its cameras are few
+--   stock-table                       so it is what a search takes
 --   room-refused, file-refused        the question that refuses: the first, or one of the file's
 --   plan-refused, sheet-refused       what a refused call owes
 --   plan-answered, sheet-answered     what an answered call owes
 use mathlib.Core.Path.{_≡_, refl, sym, ap, subst, _∙_}
 use mathlib.Core.Bool.{true, false}
-use mathlib.Core.List.{List, [], _∷_, _++_}
+use mathlib.Core.List.{List, _++_}
 use Prim.Native.Nat.{ℕ, _≤_, _<_}
 use native.Mathlib.Omega.{arith}
-use lib.Dec.{ltb, eqb}
+use lib.Dec.{eqb}
 use borrow.Author.Tests.{ne-eqb, le-leb, lt-leb}
 use lib.ListN.{length, take}
 use lib.Seq.{length-take-le}
-use Rattle.counting.specs.Tests.{below}
 use Rattle.counting.specs.Pairs.{Pair, pairsOf}
-use Rattle.counting.proofs.Booleans.{by-test, true-false}
-use Rattle.counting.proofs.Range.{length-up}
+use Rattle.counting.proofs.Booleans.{true-false}
 use Rattle.frames.specs.Frames.{frame4, frameOf4}
 use Rattle.matching.specs.Stock.{Stock, isPlan}
-use Rattle.matching.specs.Matching.{pairsInOrder}
 use Rattle.matching.specs.Promise.{WellFormedStock}
-use Rattle.pairing.specs.Table.{stockOf, Listed}
-use Rattle.pairing.specs.Plan.{StockTable, Sheet}
+use Rattle.pairing.specs.Table.{stockOf}
+use Rattle.pairing.specs.Plan.{StockTable, PlanListed, Sheet}
+use Rattle.pairing.proofs.Plans.{plan-few, plan-read}
 use Rattle.files.specs.StockFile.{markLines, stockIn, stockFault, planText}
 use Rattle.files.specs.Answers.{WrittenFirst}
 use Rattle.lanes.specs.Entry.{sheetFault}
 use Rattle.lanes.specs.Calls.{refusedBy, answeredBy}
+use Rattle.files.specs.Tables.{Holds}
 use Rattle.files.specs.Readers.{StockRead}
 use Rattle.lanes.specs.StockCalls.{PlanWritten, SheetWritten, PlanAnswered, SheetAnswered}
 use Rattle.lanes.specs.declared.Answer.{Answer}
@@ -38,25 +38,19 @@ use Rattle.files.proofs.AcceptedFiles.{accepted-stock, stock-few, fits-few}
 use Rattle.files.proofs.AnswerLines.{plan-size, sheet-size}
 
 -- WRITTEN
-pub pairs-few : (p : ℕ → ℕ) (ks : List ℕ) → length (pairsInOrder p ks) ≤ length ks
-unfolding pairsInOrder
-pairs-few p [] = omega arith
-pairs-few p (k ∷ ks) =
-    let h = pairs-few p ks in
-    by-test (ltb k (p k)) (λ t. rw t (omega arith)) (λ t. rw t (omega arith))
+module _ {n : ℕ} {us vs ls rs xs ys xs′ ys′ : List ℕ} {r : ℕ} (T : StockTable n us vs ls rs) (P : PlanListed (stockOf n us vs ls rs) xs ys xs′ ys′ r) where
+  pub listed-few : r ≤ 63
+  listed-few = omega (arith, T .cameras-few, plan-few _ (T .well-formed) P)
 
-module _ (p : ℕ → ℕ) (n : ℕ) (few : n ≤ 127) {us vs : List ℕ} {r : ℕ} (l : Listed us vs r (pairsInOrder p (below n))) where
-  pub listed-few : r ≤ 127
-  listed-few = omega (arith, l .count, pairs-few p (below n), length-up 0 n)
+  module _ (h : n ≤ length xs) (k : n ≤ length ys) {before after : List ℕ} {size : ℕ} (w : WrittenFirst (planText (pairsOf r xs′ ys′)) before after size) where
+    plan-told : WrittenFirst (planText (P .pairs)) before after size
+    plan-told = rw (plan-read _ (T .well-formed) P h k) at w
 
-  module _ {before after : List ℕ} {size : ℕ} (w : WrittenFirst (planText (pairsOf r us vs)) before after size) where
     pub plan-small : size ≤ 2048
-    plan-small = omega (arith, w .told, plan-size (pairsOf r us vs), ap (λ (xs : List Pair). length xs) (l .pairs), l .count, listed-few)
+    plan-small = omega (arith, plan-told .told, plan-size (P .pairs), P .count, listed-few)
 
-    pub plan-written : {s : Stock} {a : Answer} (m : ℕ) → n ≡ m → isPlan s (pairsInOrder p (below m)) ≡ true → a ≡ answeredBy size outcome.Stock →
-        PlanWritten s before after a
-    plan-written m same e is =
-        record { pairs = pairsOf r us vs; plan = rw (l .pairs, same) e; answers = (rw (is, w .told), w .bytes); outcome = rw is }
+    pub plan-written : {a : Answer} → a ≡ answeredBy size outcome.Stock → PlanWritten (stockOf n us vs ls rs) before after a
+    plan-written is = record { pairs = P .pairs; plan = P .plan; answers = (rw (is, plan-told .told), plan-told .bytes); outcome = rw is }
 
 module _ (k : ℕ) (ms : List ℕ) {before after : List ℕ} {size : ℕ} (w : WrittenFirst (frame4 65 k ++ markLines 0 ms ++ frameOf4 79 (length ms)) before after size) where
   pub sheet-small : length ms ≤ 127 → size ≤ 2048
@@ -72,6 +66,12 @@ module _ {f us vs xs ys : List ℕ} {number n k l : ℕ} (read : StockRead f us 
   accepted : stockFault f ≡ 0
   accepted = sym (read .says) ∙ none
 
+  pub fits-room : Holds k us vs
+  fits-room = read .held none .fitsRoom
+
+  pub lit-room : Holds l xs ys
+  lit-room = read .held none .litRoom
+
   pub cameras-few : n ≤ 127
   cameras-few = omega (arith, read .held none .camerasAre, stock-few f accepted)
 
@@ -81,13 +81,12 @@ module _ {f us vs xs ys : List ℕ} {number n k l : ℕ} (read : StockRead f us 
 
     pub stock-table : StockTable m (take k us) (take k vs) (take l xs) (take l ys)
     stock-table =
-        let h = read .held none in
         record {
-          as-long = length-take-le k vs (h .fitsRoom .second) ∙ sym (length-take-le k us (h .fitsRoom .first));
-          lit-as-long = length-take-le l ys (h .litRoom .second) ∙ sym (length-take-le l xs (h .litRoom .first));
+          as-long = length-take-le k vs (fits-room .second) ∙ sym (length-take-le k us (fits-room .first));
+          lit-as-long = length-take-le l ys (lit-room .second) ∙ sym (length-take-le l xs (lit-room .first));
           cameras-few = omega (arith, cameras-few);
           fits-few =
-              omega (arith, length-take-le k us (h .fitsRoom .first), pairs-length (h .fitsRoom), ap (λ (zs : List Pair). length zs) (h .fitsAre), fits-few f accepted);
+              omega (arith, length-take-le k us (fits-room .first), pairs-length fits-room, ap (λ (zs : List Pair). length zs) (read .held none .fitsAre), fits-few f accepted);
           well-formed = subst (λ (s : Stock). WellFormedStock s) (sym stock-is) (accepted-stock f accepted);
         }
 

@@ -23,22 +23,21 @@ fn write_graph(
     source: usize,
     tails: &[u8],
     heads: &[u8],
-    reached: &mut [usize],
     class: &mut [u8],
     path: &mut [usize],
 ) -> Answer
     requires { ⌜ ArcTable pairs source (now tails) (now heads) ⌝ }
-    requires { ⌜ (length (now reached) ≡ 2 * pairs) × (length (now class) ≡ 2 * pairs) × (2 * pairs ≤ length (now path)) ⌝ }
+    requires { ⌜ (length (now class) ≡ 2 * pairs) × (2 * pairs ≤ length (now path)) ⌝ }
     requires { ⌜ 2048 ≤ length (now out) ⌝ }
     ensures { λ r. ⌜ GraphWritten (graphOf pairs source (now (tails .entry)) (now (heads .entry))) (now (out .entry)) (now (out .exit)) r ⌝ }
 {
-    let found = path_or_barrier(pairs, source, tails, heads, reached, class, path);
+    let found = path_or_barrier(pairs, source, tails, heads, class, path);
     match found {
         search::answer::Answer::Path(count) => answered(
             put_path(out, &path[..count]),
             Outcome::Path,
         ),
-        search::answer::Answer::Barrier => answered(put_barrier(out, class), Outcome::Barrier),
+        search::answer::Answer::NoPath => answered(put_barrier(out, class), Outcome::Barrier),
     }
 }
 
@@ -58,7 +57,6 @@ pub fn answer_graph_by(file: &[u8], out: &mut [u8]) -> Answer
     let arcs = g.arcs;
     let pairs = g.pairs;
     let nodes = 2 * pairs;
-    let mut reached = [0usize; 256];
     let mut class = [0u8; 256];
     let mut path = [0usize; 256];
     write_graph(
@@ -67,7 +65,6 @@ pub fn answer_graph_by(file: &[u8], out: &mut [u8]) -> Answer
         g.source,
         &tails[..arcs],
         &heads[..arcs],
-        &mut reached[..nodes],
         &mut class[..nodes],
         &mut path,
     )

@@ -9,8 +9,6 @@ use crate::calls::refused;
 use files::answers::put_plan;
 use files::answers::put_sheet;
 use files::stocks::read_stock;
-use pairing::row::pairs_of;
-ghost use mathlib.Core.Path.{_≡_};
 ghost use Prim.Native.Nat.{_≤_};
 ghost use lib.ListN.{length};
 ghost use Rattle.counting.specs.Pairs.{zipPairs};
@@ -18,38 +16,50 @@ ghost use Rattle.pairing.specs.Table.{stockOf};
 ghost use Rattle.pairing.specs.Plan.{StockTable};
 ghost use Rattle.lanes.specs.StockCalls.{PlanWritten, SheetWritten, PlanAnswered, SheetAnswered};
 
-// A plan of the stock at the front of the buffer. The row is work space.
-fn write_plan(out: &mut [u8], row: &mut [u8], us: &[u8], vs: &[u8], ls: &[u8], rs: &[u8]) -> Answer
-    requires { ⌜ StockTable (length (now row)) (now us) (now vs) (now ls) (now rs) ⌝ }
+// A plan of the stock at the front of the buffer.
+fn write_plan(
+    out: &mut [u8],
+    cameras: usize,
+    firsts: &[u8],
+    seconds: &[u8],
+    lit_firsts: &[u8],
+    lit_seconds: &[u8],
+) -> Answer
+    requires { ⌜ StockTable cameras (now firsts) (now seconds) (now «lit_firsts») (now «lit_seconds») ⌝ }
     requires { ⌜ 2048 ≤ length (now out) ⌝ }
-    ensures { λ r. ⌜ PlanWritten (stockOf (length (now (row .entry))) (now (us .entry)) (now (vs .entry)) (now (ls .entry)) (now (rs .entry))) (now (out .entry)) (now (out .exit)) r ⌝ }
+    ensures { λ r. ⌜ PlanWritten (stockOf cameras (now (firsts .entry)) (now (seconds .entry)) (now («lit_firsts» .entry)) (now («lit_seconds» .entry))) (now (out .entry)) (now (out .exit)) r ⌝ }
 {
-    let mut firsts = [0u8; 127];
-    let mut seconds = [0u8; 127];
-    pairing::plan::plan(row, us, vs, ls, rs);
-    let count = pairs_of(row, &mut firsts, &mut seconds);
+    let mut pair_firsts = [0u8; 127];
+    let mut pair_seconds = [0u8; 127];
+    let count = pairing::plan::plan(
+        cameras,
+        firsts,
+        seconds,
+        lit_firsts,
+        lit_seconds,
+        &mut pair_firsts,
+        &mut pair_seconds,
+    );
     answered(
-        put_plan(out, &firsts[..count], &seconds[..count]),
+        put_plan(out, &pair_firsts[..count], &pair_seconds[..count]),
         Outcome::Stock,
     )
 }
 
-// The standing sheet of the stock at the front of the buffer. The row and the marks are work space.
+// The standing sheet of the stock at the front of the buffer; the marks are work space, one for each camera.
 fn write_sheet(
     out: &mut [u8],
-    row: &mut [u8],
     marks: &mut [u8],
-    us: &[u8],
-    vs: &[u8],
-    ls: &[u8],
-    rs: &[u8],
+    firsts: &[u8],
+    seconds: &[u8],
+    lit_firsts: &[u8],
+    lit_seconds: &[u8],
 ) -> Answer
-    requires { ⌜ StockTable (length (now row)) (now us) (now vs) (now ls) (now rs) ⌝ }
-    requires { ⌜ length (now marks) ≡ length (now row) ⌝ }
+    requires { ⌜ StockTable (length (now marks)) (now firsts) (now seconds) (now «lit_firsts») (now «lit_seconds») ⌝ }
     requires { ⌜ 2048 ≤ length (now out) ⌝ }
-    ensures { λ r. ⌜ SheetWritten (length (now (row .entry))) (zipPairs (now (us .entry)) (now (vs .entry))) (now (out .entry)) (now (out .exit)) r ⌝ }
+    ensures { λ r. ⌜ SheetWritten (length (now (marks .entry))) (zipPairs (now (firsts .entry)) (now (seconds .entry))) (now (out .entry)) (now (out .exit)) r ⌝ }
 {
-    let pairs = pairing::plan::sheet(row, us, vs, ls, rs, marks);
+    let pairs = pairing::plan::sheet(firsts, seconds, lit_firsts, lit_seconds, marks);
     answered(put_sheet(out, pairs, marks), Outcome::Stock)
 }
 
@@ -61,24 +71,28 @@ pub fn plan_by(file: &[u8], out: &mut [u8]) -> Answer
     }
     let mut firsts = [0u8; 3900];
     let mut seconds = [0u8; 3900];
-    let mut ones = [0u8; 8571];
-    let mut others = [0u8; 8571];
-    let stock = read_stock(file, &mut firsts, &mut seconds, &mut ones, &mut others);
+    let mut lit_firsts = [0u8; 8571];
+    let mut lit_seconds = [0u8; 8571];
+    let stock = read_stock(
+        file,
+        &mut firsts,
+        &mut seconds,
+        &mut lit_firsts,
+        &mut lit_seconds,
+    );
     let number = stock.number;
     if number != 0 {
         return refused(number);
     }
-    let mut row = [0u8; 127];
-    let cameras = stock.cameras;
     let fits = stock.fits;
     let lit = stock.lit;
     write_plan(
         out,
-        &mut row[..cameras],
+        stock.cameras,
         &firsts[..fits],
         &seconds[..fits],
-        &ones[..lit],
-        &others[..lit],
+        &lit_firsts[..lit],
+        &lit_seconds[..lit],
     )
 }
 
@@ -90,25 +104,29 @@ pub fn sheet_by(file: &[u8], out: &mut [u8]) -> Answer
     }
     let mut firsts = [0u8; 3900];
     let mut seconds = [0u8; 3900];
-    let mut ones = [0u8; 8571];
-    let mut others = [0u8; 8571];
-    let stock = read_stock(file, &mut firsts, &mut seconds, &mut ones, &mut others);
+    let mut lit_firsts = [0u8; 8571];
+    let mut lit_seconds = [0u8; 8571];
+    let stock = read_stock(
+        file,
+        &mut firsts,
+        &mut seconds,
+        &mut lit_firsts,
+        &mut lit_seconds,
+    );
     let number = stock.number;
     if number != 0 {
         return refused(number);
     }
-    let mut row = [0u8; 127];
     let mut marks = [0u8; 127];
     let cameras = stock.cameras;
     let fits = stock.fits;
     let lit = stock.lit;
     write_sheet(
         out,
-        &mut row[..cameras],
         &mut marks[..cameras],
         &firsts[..fits],
         &seconds[..fits],
-        &ones[..lit],
-        &others[..lit],
+        &lit_firsts[..lit],
+        &lit_seconds[..lit],
     )
 }

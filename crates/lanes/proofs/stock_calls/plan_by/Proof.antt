@@ -1,18 +1,25 @@
 -- `lanes::stock_calls::plan_by` meets its contract: refused, or what was written is what is owed.
-use mathlib.Core.Path.{sym}
+use mathlib.Core.Path.{refl, sym}
 use native.Mathlib.Omega.{arith}
 use lib.Seq.{length-take-le}
-use Rattle.lanes.proofs.StockCalls.{cameras-few, stock-table, room-refused, file-refused, plan-refused, plan-answered}
+use Rattle.files.specs.Tables.{Holds}
+use Rattle.lanes.proofs.StockCalls.{fits-room, lit-room, stock-table, room-refused, file-refused, plan-refused, plan-answered}
 use borrow.Author.Needs.{needs}
 use Rattle.lanes.proofs.stock_calls.plan_by.Statement.{statement}
 use Rattle.lanes.proofs.stock_calls.plan_by.Tie as tie
 
 -- PLACES: question 1 answered yes, and the reading, seen from where no question refused
-abbrev room : tie.After-read-stock → tie.Else1
-room c = c .before .before .before .before .before
+abbrev asked : tie.After-read-stock → tie.Else1
+asked c = c .before .before .before .before .before
 
 abbrev read : tie.Else2 → tie.After-read-stock
 read c = c .before .before .before .before .before
+
+fits : (c : tie.Else2) → Holds (read c .read-stock .result .fits) (read c .read-stock .last .1 .0) (read c .read-stock .last .1 .1 .0)
+fits c = fits-room (read c .read-stock .ensures) (c .if2 .left)
+
+lit : (c : tie.Else2) → Holds (read c .read-stock .result .lit) (read c .read-stock .last .1 .1 .1 .0) (read c .read-stock .last .1 .1 .1 .1 .0)
+lit c = lit-room (read c .read-stock .ensures) (c .if2 .left)
 
 refused-requires : tie.Need-refused-requires
 refused-requires c κs = search needs
@@ -41,60 +48,44 @@ refused-requires-2 c κs = search needs
 
 returns-2 : tie.Need-returns-2
 returns-2 c =
-    let a = c .before .before .before .before .before .before in plan-refused (file-refused (room a .before .before .before .args .out .now) (room a .if1 .left) (a .read-stock .ensures)) (c .before .if2 .taken) (c .refused2 .ensures)
-
-array-borrow-prefix-row : tie.Need-array-borrow-prefix-row
-array-borrow-prefix-row c =
-    let a = c .before in let few = cameras-few (read a .read-stock .ensures) (a .if2 .left) in omega arith
-
-slice-aggregate-write-plan : tie.Need-slice-aggregate-write-plan
-slice-aggregate-write-plan c =
-    let a = c .before .before in let few = cameras-few (read a .read-stock .ensures) (a .if2 .left) in sym (length-take-le _ _ (omega arith))
+    let a = c .before .before .before .before .before .before in plan-refused (file-refused (asked a .before .before .before .args .out .now) (asked a .if1 .left) (a .read-stock .ensures)) (c .before .if2 .taken) (c .refused2 .ensures)
 
 array-share-prefix-firsts : tie.Need-array-share-prefix-firsts
-array-share-prefix-firsts c =
-    let a = c .before .before in let h = read a .read-stock .ensures .held (a .if2 .left) in omega (arith, h .fitsRoom .first)
+array-share-prefix-firsts c = fits (c .before) .first
 
-slice-aggregate-write-plan-2 : tie.Need-slice-aggregate-write-plan-2
-slice-aggregate-write-plan-2 c =
-    let a = c .before .before .before in let h = read a .read-stock .ensures .held (a .if2 .left) in sym (length-take-le _ _ (h .fitsRoom .first))
+slice-aggregate-write-plan : tie.Need-slice-aggregate-write-plan
+slice-aggregate-write-plan c = sym (length-take-le _ _ (fits (c .before .before) .first))
 
 array-share-prefix-seconds : tie.Need-array-share-prefix-seconds
-array-share-prefix-seconds c =
-    let a = c .before .before .before in let h = read a .read-stock .ensures .held (a .if2 .left) in omega (arith, h .fitsRoom .second)
+array-share-prefix-seconds c = fits (c .before .before) .second
+
+slice-aggregate-write-plan-2 : tie.Need-slice-aggregate-write-plan-2
+slice-aggregate-write-plan-2 c = sym (length-take-le _ _ (fits (c .before .before .before) .second))
+
+array-share-prefix-lit-firsts : tie.Need-array-share-prefix-lit-firsts
+array-share-prefix-lit-firsts c = lit (c .before .before .before) .first
 
 slice-aggregate-write-plan-3 : tie.Need-slice-aggregate-write-plan-3
-slice-aggregate-write-plan-3 c =
-    let a = c .before .before .before .before in let h = read a .read-stock .ensures .held (a .if2 .left) in sym (length-take-le _ _ (h .fitsRoom .second))
+slice-aggregate-write-plan-3 c = sym (length-take-le _ _ (lit (c .before .before .before .before) .first))
 
-array-share-prefix-ones : tie.Need-array-share-prefix-ones
-array-share-prefix-ones c =
-    let a = c .before .before .before .before in let h = read a .read-stock .ensures .held (a .if2 .left) in omega (arith, h .litRoom .first)
+array-share-prefix-lit-seconds : tie.Need-array-share-prefix-lit-seconds
+array-share-prefix-lit-seconds c = lit (c .before .before .before .before) .second
 
 slice-aggregate-write-plan-4 : tie.Need-slice-aggregate-write-plan-4
-slice-aggregate-write-plan-4 c =
-    let a = c .before .before .before .before .before in let h = read a .read-stock .ensures .held (a .if2 .left) in sym (length-take-le _ _ (h .litRoom .first))
-
-array-share-prefix-others : tie.Need-array-share-prefix-others
-array-share-prefix-others c =
-    let a = c .before .before .before .before .before in let h = read a .read-stock .ensures .held (a .if2 .left) in omega (arith, h .litRoom .second)
-
-slice-aggregate-write-plan-5 : tie.Need-slice-aggregate-write-plan-5
-slice-aggregate-write-plan-5 c =
-    let a = c .before .before .before .before .before .before in let h = read a .read-stock .ensures .held (a .if2 .left) in sym (length-take-le _ _ (h .litRoom .second))
+slice-aggregate-write-plan-4 c = sym (length-take-le _ _ (lit (c .before .before .before .before .before) .second))
 
 write-plan-requires : tie.Need-write-plan-requires
 write-plan-requires c κs =
-    let a = c .before .before .before .before .before .before in let few = cameras-few (read a .read-stock .ensures) (a .if2 .left) in
-    (stock-table (read a .read-stock .ensures) (a .if2 .left) _ (length-take-le _ _ (omega arith)), room (read a) .if1 .left)
+    let a = c .before .before .before .before .before in
+    (stock-table (read a .read-stock .ensures) (a .if2 .left) _ refl, asked (read a) .if1 .left)
 
 same-length : tie.Need-same-length
 same-length c = search needs
 
 returns-3 : tie.Need-returns-3
 returns-3 c =
-    let a = c .before .before .before .before .before .before .before .before .before .before in let few = cameras-few (read a .read-stock .ensures) (a .if2 .left) in
-    plan-answered (room (read a) .if1 .left) (read a .read-stock .ensures) (a .if2 .left) (length-take-le _ _ (omega arith)) (c .before .before .before .write-plan .ensures)
+    let a = c .before .before .before .before .before .before .before .before in
+    plan-answered (asked (read a) .if1 .left) (read a .read-stock .ensures) (a .if2 .left) refl (c .before .before .write-plan .ensures)
 
 pub plan-by-spec : {M : Type 1} → statement M
 plan-by-spec =
@@ -109,16 +100,14 @@ plan-by-spec =
     read-stock-requires
     refused-requires-2
     returns-2
-    array-borrow-prefix-row
-    slice-aggregate-write-plan
     array-share-prefix-firsts
-    slice-aggregate-write-plan-2
+    slice-aggregate-write-plan
     array-share-prefix-seconds
+    slice-aggregate-write-plan-2
+    array-share-prefix-lit-firsts
     slice-aggregate-write-plan-3
-    array-share-prefix-ones
+    array-share-prefix-lit-seconds
     slice-aggregate-write-plan-4
-    array-share-prefix-others
-    slice-aggregate-write-plan-5
     write-plan-requires
     same-length
     returns-3)

@@ -5,12 +5,9 @@ use borrow.Author.Needs.{needs}
 use Rattle.lanes.proofs.stock_calls.write_sheet.Statement.{statement}
 use Rattle.lanes.proofs.stock_calls.write_sheet.Tie as tie
 
--- PLACES: the start, seen from the search, and the search, seen from where its marks are back
-abbrev start : tie.After-sheet → tie.Start
-start c = c .before .before .before .before .before .before .before .before .before .before
-
-abbrev search-of : tie.After-marks → tie.After-sheet
-search-of c = c .before .before .before
+-- PLACE
+abbrev start : tie.After-marks → tie.Start
+start c = c .before .before .before .before .before .before .before .before .before
 
 sheet-requires : tie.Need-sheet-requires
 sheet-requires c κs = search needs
@@ -20,7 +17,7 @@ put-sheet-requires c κs = search needs
 
 answered-requires : tie.Need-answered-requires
 answered-requires c κs =
-    let a = c .before .before .before .before .before .before in sheet-small _ _ (c .before .before .put-sheet .ensures) (omega (arith, a .marks .given, start (search-of a) .pre .1 .0, start (search-of a) .pre .0 .cameras-few))
+    let a = c .before .before .before .before .before .before in sheet-small _ _ (c .before .before .put-sheet .ensures) (omega (arith, a .marks .given, start a .pre .0 .cameras-few))
 
 same-length : tie.Need-same-length
 same-length c = search needs
@@ -28,12 +25,9 @@ same-length c = search needs
 same-length-2 : tie.Need-same-length-2
 same-length-2 c = search needs
 
-same-length-3 : tie.Need-same-length-3
-same-length-3 c = search needs
-
 returns : tie.Need-returns
 returns c =
-    let a = c .before .before .before .before .before .before .before in sheet-written _ _ (c .before .before .before .put-sheet .ensures) (search-of a .sheet .ensures) (omega (arith, a .marks .given, start (search-of a) .pre .1 .0)) (c .answered .ensures)
+    let a = c .before .before .before .before .before .before .before in sheet-written _ _ (c .before .before .before .put-sheet .ensures) (a .before .sheet .ensures) (a .marks .given) (c .answered .ensures)
 
 pub write-sheet-spec : {M : Type 1} → statement M
 write-sheet-spec =
@@ -44,5 +38,4 @@ write-sheet-spec =
     answered-requires
     same-length
     same-length-2
-    same-length-3
     returns)

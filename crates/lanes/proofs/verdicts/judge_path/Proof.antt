@@ -3,8 +3,8 @@ use mathlib.Core.Path.{ap, sym, _∙_}
 use mathlib.Core.Bool.{Bool}
 use lib.Seq.{length-take-le}
 use Rattle.counting.specs.Tests.{pick}
+use Rattle.counting.proofs.Zips.{zip-length}
 use Rattle.arcs.specs.Table.{graphOf}
-use Rattle.arcs.proofs.Tables.{arcs-length}
 use Rattle.lanes.specs.declared.Verdict.the-variants.{Yes, No}
 use Rattle.lanes.proofs.Checks.{path-refused, path-judged}
 use borrow.Author.Needs.{needs}
@@ -22,8 +22,9 @@ refused-requires c κs = search needs
 
 returns : tie.Need-returns
 returns c =
-    let a = c .before .before .before .before .before .before .before .before .args in
-    path-refused (graphOf (a .pairs) (a .source) (a .tails .now) (a .heads .now)) (arcs-length (a .tails .now) (a .heads .now)) (c .before .before .before .read-path .ensures) (c .before .if1 .taken) (c .refused .ensures)
+    let start = c .before .before .before .before .before .before .before .before in
+    let a = start .args in
+    path-refused (graphOf (a .pairs) (a .source) (a .tails .now) (a .heads .now)) (zip-length (a .tails .now) (a .heads .now) (start .pre .as-long)) (c .before .before .before .read-path .ensures) (c .before .if1 .taken) (c .refused .ensures)
 
 array-share-prefix-arcs : tie.Need-array-share-prefix-arcs
 array-share-prefix-arcs c = c .before .before .read-path .ensures .held (c .if1 .left) .room
@@ -41,8 +42,9 @@ judged-requires c κs = search needs
 
 returns-2 : tie.Need-returns-2
 returns-2 c =
-    let a = c .before .before .before .before .before .before .before .before .before .before .args in
-    path-judged (graphOf (a .pairs) (a .source) (a .tails .now) (a .heads .now)) (arcs-length (a .tails .now) (a .heads .now)) (c .before .before .before .before .before .read-path .ensures) (c .before .before .before .if1 .left) (c .judged .ensures ∙ ap (λ (z : Bool). pick z Yes No) (c .before .is-wanted .ensures))
+    let start = c .before .before .before .before .before .before .before .before .before .before in
+    let a = start .args in
+    path-judged (graphOf (a .pairs) (a .source) (a .tails .now) (a .heads .now)) (zip-length (a .tails .now) (a .heads .now) (start .pre .as-long)) (c .before .before .before .before .before .read-path .ensures) (c .before .before .before .if1 .left) (c .judged .ensures ∙ ap (λ (z : Bool). pick z Yes No) (c .before .is-wanted .ensures))
 
 pub judge-path-spec : {M : Type 1} → statement M
 judge-path-spec =
