@@ -1,7 +1,8 @@
 -- What each program prints for a file (document 01, "Questions put to a call": Programs): the answer's lines, or 7E and the refusal. A program lends
 -- room enough, so that question 1 is answered yes.
---   GraphText file text                   the text is what is printed for a graph: which path is left free
---   PlanText file text                    the same of a stock's plan: which largest one is left free
+--   RefusedOr number Right text           the text is the refusal's line or, where there is none, right
+--   GraphAnswer, GraphText file text      the text is an answer to a graph, and is what is printed for it: which path is left free
+--   PlanAnswer, PlanText file text        the same of a stock's plan: which largest one is left free
 --   sheetPrinted file                     a stock's standing sheet, or the refusal
 --   verdictPrinted graph cert             the check's line
 --   Shows told before after size          what a call told, as it is printed: its answer as it stands in the buffer, or the line of its refusal

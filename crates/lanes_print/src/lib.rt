@@ -1,5 +1,7 @@
 // What the programs print (document 01, "Questions put to a call": Programs), at the front of a lent buffer: an answer's lines, or the one line of a
 // refusal or of the check. Each function answers how many bytes there are to print.
+//   print_graph, print_plan, print_sheet, print_check    what each program prints
+//   show, show_verdict                                   what a call told, and what the check says
 use frames::write::put_frame4;
 use lanes::Told;
 use lanes::Verdict;
