@@ -23,11 +23,11 @@ use Rattle.frames.proofs.Questions.{or-stop, or-go, or-none}
 use Rattle.frames.proofs.ShapeFaults.{shape-chain}
 use Rattle.frames.proofs.Begins.{begins-split, begins-header}
 use Rattle.arcs.specs.Table.{graphOf}
-use Rattle.skew.specs.Graph.{Graph, nodes, isWanted, isBarrier}
+use Rattle.skew.specs.Graph.{Graph, isWanted, isBarrier}
 use Rattle.files.specs.GraphFile.{graphIn, graphFault}
 use Rattle.files.specs.CertificateFile.{isPathFile, pathArcs, pathFault, barrierClasses, barrierFault, certFault, certHolds}
-use Rattle.files.specs.CertificateReaders.{PathRead, BarrierRead}
-use Rattle.files.specs.Readers.{GraphRead}
+use Rattle.files.specs.CertificateReaders.{PathHeld, BarrierHeld}
+use Rattle.files.specs.Readers.{GraphHeld}
 use Rattle.lanes.specs.Entry.{checkFault, checkPost}
 use Rattle.lanes.specs.Verdicts.{verdictOf, certNumber, pathVerdict, barrierVerdict, certVerdict}
 use Rattle.lanes.specs.declared.Verdict.{Verdict}
@@ -41,26 +41,24 @@ verdict-judged : (n : ℕ) (z : Bool) → n ≡ 0 → verdictOf (certNumber n) z
 verdict-judged n z e = rw e
 
 -- READ
-module _ (g : Graph) {f xs : List ℕ} {b n k : ℕ} {v : Verdict} where
-  pub path-refused : length (g .arcs) ≡ b → PathRead f xs b n k → (n ≡ 0 → ⊥) → v ≡ Refused (40 + n) → v ≡ pathVerdict g f
-  path-refused q r h e =
-      e ∙ sym (verdict-refused n (isWanted g (pathArcs f)) h) ∙
-      ap (λ (m : ℕ). verdictOf (certNumber m) (isWanted g (pathArcs f))) (r .says g q)
+module _ (g : Graph) (f : List ℕ) {v : Verdict} where
+  pub path-refused : {n : ℕ} → n ≡ pathFault g f → (n ≡ 0 → ⊥) → v ≡ Refused (40 + n) → v ≡ pathVerdict g f
+  path-refused {n} q h e =
+      e ∙ sym (verdict-refused n (isWanted g (pathArcs f)) h) ∙ ap (λ (m : ℕ). verdictOf (certNumber m) (isWanted g (pathArcs f))) q
 
-  pub path-judged : length (g .arcs) ≡ b → PathRead f xs b n k → n ≡ 0 → v ≡ pick (isWanted g (take k xs)) Yes No → v ≡ pathVerdict g f
-  path-judged q r z e =
-      e ∙ ap (λ (is : List ℕ). pick (isWanted g is) Yes No) (r .held z .arcsAre) ∙
-      sym (verdict-judged (pathFault g f) (isWanted g (pathArcs f)) (sym (r .says g q) ∙ z))
+  pub path-judged : {xs : List ℕ} {b k : ℕ} → PathHeld f xs b k → pathFault g f ≡ 0 → v ≡ pick (isWanted g (take k xs)) Yes No → v ≡ pathVerdict g f
+  path-judged h z e =
+      e ∙ ap (λ (is : List ℕ). pick (isWanted g is) Yes No) (h .arcsAre) ∙ sym (verdict-judged (pathFault g f) (isWanted g (pathArcs f)) z)
 
-  pub barrier-refused : nodes g ≡ b → BarrierRead f xs b n k → (n ≡ 0 → ⊥) → v ≡ Refused (40 + n) → v ≡ barrierVerdict g f
-  barrier-refused q r h e =
+  pub barrier-refused : {n : ℕ} → n ≡ barrierFault g f → (n ≡ 0 → ⊥) → v ≡ Refused (40 + n) → v ≡ barrierVerdict g f
+  barrier-refused {n} q h e =
       e ∙ sym (verdict-refused n (isBarrier g (barrierClasses f)) h) ∙
-      ap (λ (m : ℕ). verdictOf (certNumber m) (isBarrier g (barrierClasses f))) (r .says g q)
+      ap (λ (m : ℕ). verdictOf (certNumber m) (isBarrier g (barrierClasses f))) q
 
-  pub barrier-judged : nodes g ≡ b → BarrierRead f xs b n k → n ≡ 0 → v ≡ pick (isBarrier g (take k xs)) Yes No → v ≡ barrierVerdict g f
-  barrier-judged q r z e =
-      e ∙ ap (λ (cs : List ℕ). pick (isBarrier g cs) Yes No) (r .held z .classesAre) ∙
-      sym (verdict-judged (barrierFault g f) (isBarrier g (barrierClasses f)) (sym (r .says g q) ∙ z))
+  pub barrier-judged : {xs : List ℕ} {k : ℕ} → BarrierHeld f xs k → barrierFault g f ≡ 0 → v ≡ pick (isBarrier g (take k xs)) Yes No → v ≡ barrierVerdict g f
+  barrier-judged h z e =
+      e ∙ ap (λ (cs : List ℕ). pick (isBarrier g cs) Yes No) (h .classesAre) ∙
+      sym (verdict-judged (barrierFault g f) (isBarrier g (barrierClasses f)) z)
 
 -- NO HEADER
 abbrev noHeader : List ℕ → ℕ
@@ -125,13 +123,14 @@ module _ (g : Graph) (f : List ℕ) where
         ap (λ (n : ℕ). verdictOf (certNumber n) (certHolds g f)) (sym cert-path)
 
 -- THE CALL
-module _ (c : List ℕ) {f ts hs : List ℕ} {n p s k : ℕ} (r : GraphRead f ts hs n p s k) where
-  pub check-refused : (n ≡ 0 → ⊥) → Refused n ≡ checkPost f c
-  check-refused h =
-      let e : checkFault f c ≡ n = or-stop (graphFault f) _ (λ z. h (r .says ∙ z)) ∙ sym (r .says) in
+module _ (f c : List ℕ) where
+  pub check-refused : {n : ℕ} → n ≡ graphFault f → (n ≡ 0 → ⊥) → Refused n ≡ checkPost f c
+  check-refused {n} q h =
+      let e : checkFault f c ≡ n = or-stop (graphFault f) _ (λ z. h (q ∙ z)) ∙ sym q in
       sym (ap (λ (m : ℕ). verdictOf m (certHolds (graphIn f) c)) e ∙ rw (ne-eqb n 0 h))
 
-  pub check-judged : {v : Verdict} → n ≡ 0 → v ≡ certVerdict (graphOf p s (take k ts) (take k hs)) c → v ≡ checkPost f c
-  check-judged z e =
-      e ∙ ap (λ (g : Graph). certVerdict g c) (held-graph (r .held z)) ∙
-      ap (λ (m : ℕ). verdictOf m (certHolds (graphIn f) c)) (sym (or-go (graphFault f) _ (sym (r .says) ∙ z)))
+  pub check-judged : {ts hs : List ℕ} {p s k : ℕ} {v : Verdict} → GraphHeld f ts hs p s k → graphFault f ≡ 0 →
+      v ≡ certVerdict (graphOf p s (take k ts) (take k hs)) c → v ≡ checkPost f c
+  check-judged h z e =
+      e ∙ ap (λ (g : Graph). certVerdict g c) (held-graph h) ∙
+      ap (λ (m : ℕ). verdictOf m (certHolds (graphIn f) c)) (sym (or-go (graphFault f) _ z))

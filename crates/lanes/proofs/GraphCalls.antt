@@ -4,8 +4,7 @@
 --   path-small, barrier-small               the answer that is written of it is short
 --   path-written, barrier-written           and is what is owed of the graph
 --   room-refused, file-refused              question 1 refuses, or one of the file's
---   read-table, read-room, read-few         none does: the graph as it was read
---   read-answered                           and what is owed of it
+--   read-answered                           none does: what is owed of the graph as it was read
 use mathlib.Core.Path.{_≡_, refl, sym, subst, _∙_}
 use mathlib.Core.Bool.{true, false}
 use mathlib.Core.List.{List, [], _∷_}
@@ -30,9 +29,8 @@ use Rattle.files.specs.CertificateFile.{pathLines, pathText, classLines, barrie
 use Rattle.lanes.specs.Entry.{answerFault}
 use Rattle.lanes.specs.Calls.{refusedBy, answeredBy}
 use Rattle.files.specs.Answers.{WrittenFirst}
-use Rattle.files.specs.Tables.{Holds}
-use Rattle.files.specs.Readers.{GraphRead}
-use Rattle.files.proofs.ArcTables.{held-graph, held-table}
+use Rattle.files.specs.Readers.{GraphHeld}
+use Rattle.files.proofs.ArcTables.{held-graph}
 use Rattle.lanes.specs.GraphCalls.{GraphWritten, GraphAnswered}
 use Rattle.lanes.specs.declared.Answer.{Answer}
 use Rattle.lanes.specs.declared.Outcome.the-variants as outcome
@@ -132,20 +130,7 @@ module _ (f o : List ℕ) {r : Answer} where
   file-refused h e some is = graph-refused (graph-file f o h ∙ sym e) some is
 
 -- of a graph as it was read
-module _ {f ts hs : List ℕ} {number pairs source arcs : ℕ} (h : GraphRead f ts hs number pairs source arcs) (e : number ≡ 0) where
-  read-fault : graphFault f ≡ 0
-  read-fault = sym (h .says) ∙ e
-
-  pub read-table : ArcTable pairs source (take arcs ts) (take arcs hs)
-  read-table = held-table (h .held e) read-fault
-
-  pub read-room : Holds arcs ts hs
-  read-room = h .held e .room
-
-  pub read-few : pairs ≤ 128
-  read-few = read-table .pairs-few
-
-  pub read-answered : {o after : List ℕ} {r : Answer} → 2048 ≤ length o → GraphWritten (graphOf pairs source (take arcs ts) (take arcs hs)) o after r →
-      GraphAnswered f o r after
-  read-answered {o} {after} {r} l w =
-      graph-answered f o (graph-file f o l ∙ read-fault) (subst (λ (g : Graph). GraphWritten g o after r) (held-graph (h .held e)) w)
+pub read-answered : {f ts hs o after : List ℕ} {pairs source arcs : ℕ} {r : Answer} → GraphHeld f ts hs pairs source arcs → graphFault f ≡ 0 → 2048 ≤ length o →
+    GraphWritten (graphOf pairs source (take arcs ts) (take arcs hs)) o after r → GraphAnswered f o r after
+read-answered {f} {o = o} {after} {r = r} h none l w =
+    graph-answered f o (graph-file f o l ∙ none) (subst (λ (g : Graph). GraphWritten g o after r) (held-graph h) w)

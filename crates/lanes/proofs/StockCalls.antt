@@ -2,9 +2,8 @@
 --   listed-few                        a plan has at most 63 pairs
 --   plan-small, sheet-small           what is written is short
 --   plan-written, sheet-written       and is what is owed of the stock
---   fits-room, lit-room, cameras-few  an accepted file as it was read: its pairs stand in the tables, and its cameras are few
---   stock-table                       so it is what a search takes
---   room-refused, file-refused        the question that refuses: the first, or one of the file's
+--   cameras-few, stock-table          an accepted file as it was read: what a search takes
+--   room-fault, file-fault            question 1 is answered no; it is answered yes, and the others are the file's
 --   plan-refused, sheet-refused       what a refused call owes
 --   plan-answered, sheet-answered     what an answered call owes
 use mathlib.Core.Path.{_≡_, refl, sym, ap, subst, _∙_}
@@ -28,8 +27,7 @@ use Rattle.files.specs.StockFile.{markLines, stockIn, stockFault, planText}
 use Rattle.files.specs.Answers.{WrittenFirst}
 use Rattle.lanes.specs.Entry.{sheetFault}
 use Rattle.lanes.specs.Calls.{refusedBy, answeredBy}
-use Rattle.files.specs.Tables.{Holds}
-use Rattle.files.specs.Readers.{StockRead}
+use Rattle.files.specs.Readers.{StockHeld}
 use Rattle.lanes.specs.StockCalls.{PlanWritten, SheetWritten, PlanAnswered, SheetAnswered}
 use Rattle.lanes.specs.declared.Answer.{Answer}
 use Rattle.lanes.specs.declared.Outcome.the-variants as outcome
@@ -62,44 +60,33 @@ module _ (k : ℕ) (ms : List ℕ) {before after : List ℕ} {size : ℕ} (w : W
       let v = rw (l, s .count, s .marks) at w in record { answers = (rw (is, v .told), v .bytes); outcome = rw is }
 
 -- A FILE AS IT WAS READ
-module _ {f us vs xs ys : List ℕ} {number n k l : ℕ} (read : StockRead f us vs xs ys number n k l) (none : number ≡ 0) where
-  accepted : stockFault f ≡ 0
-  accepted = sym (read .says) ∙ none
-
-  pub fits-room : Holds k us vs
-  fits-room = read .held none .fitsRoom
-
-  pub lit-room : Holds l xs ys
-  lit-room = read .held none .litRoom
-
-  pub cameras-few : n ≤ 127
-  cameras-few = omega (arith, read .held none .camerasAre, stock-few f accepted)
-
+module _ {f us vs xs ys : List ℕ} {n k l : ℕ} (h : StockHeld f us vs xs ys n k l) where
   module _ (m : ℕ) (same : m ≡ n) where
     stock-is : stockOf m (take k us) (take k vs) (take l xs) (take l ys) ≡ stockIn f
-    stock-is = let h = read .held none in rw (same, h .camerasAre, h .fitsAre, h .litAre)
+    stock-is = rw (same, h .camerasAre, h .fitsAre, h .litAre)
 
-    pub stock-table : StockTable m (take k us) (take k vs) (take l xs) (take l ys)
-    stock-table =
+  module _ (none : stockFault f ≡ 0) where
+    pub cameras-few : n ≤ 127
+    cameras-few = omega (arith, h .camerasAre, stock-few f none)
+
+    pub stock-table : (m : ℕ) → m ≡ n → StockTable m (take k us) (take k vs) (take l xs) (take l ys)
+    stock-table m same =
         record {
-          as-long = length-take-le k vs (fits-room .second) ∙ sym (length-take-le k us (fits-room .first));
-          lit-as-long = length-take-le l ys (lit-room .second) ∙ sym (length-take-le l xs (lit-room .first));
+          as-long = length-take-le k vs (h .fitsRoom .second) ∙ sym (length-take-le k us (h .fitsRoom .first));
+          lit-as-long = length-take-le l ys (h .litRoom .second) ∙ sym (length-take-le l xs (h .litRoom .first));
           cameras-few = omega (arith, cameras-few);
           fits-few =
-              omega (arith, length-take-le k us (fits-room .first), pairs-length fits-room, ap (λ (zs : List Pair). length zs) (read .held none .fitsAre), fits-few f accepted);
-          well-formed = subst (λ (s : Stock). WellFormedStock s) (sym stock-is) (accepted-stock f accepted);
+              omega (arith, length-take-le k us (h .fitsRoom .first), pairs-length (h .fitsRoom), ap (λ (zs : List Pair). length zs) (h .fitsAre), fits-few f none);
+          well-formed = subst (λ (s : Stock). WellFormedStock s) (sym (stock-is m same)) (accepted-stock f none);
         }
 
 -- THE CALLS
-pub room-refused : (f o : List ℕ) → length o < 2048 → sheetFault f o ≡ 1
-room-refused f o h = rw (lt-leb _ _ h)
+module _ (f o : List ℕ) where
+  pub room-fault : length o < 2048 → sheetFault f o ≡ 1
+  room-fault h = rw (lt-leb _ _ h)
 
-file-fault : (f o : List ℕ) → 2048 ≤ length o → sheetFault f o ≡ stockFault f
-file-fault f o h = rw (le-leb _ _ h)
-
-pub file-refused : (o : List ℕ) {f us vs xs ys : List ℕ} {number n k l : ℕ} → 2048 ≤ length o → StockRead f us vs xs ys number n k l →
-    sheetFault f o ≡ number
-file-refused o {f} h read = file-fault f o h ∙ sym (read .says)
+  pub file-fault : 2048 ≤ length o → sheetFault f o ≡ stockFault f
+  file-fault h = rw (le-leb _ _ h)
 
 module _ {f o : List ℕ} {r : Answer} where
   module _ {n : ℕ} (e : sheetFault f o ≡ n) (no : n ≡ 0 → ⊥) (is : r ≡ refusedBy n) where
@@ -116,18 +103,17 @@ module _ {f o : List ℕ} {r : Answer} where
         let z : eqb n 0 ≡ false = ne-eqb n 0 no in
         record { told = rw (is, e, z); leaves = rw (e, z); outcome = rw (is, e, z) }
 
-  module _ (room : 2048 ≤ length o) {us vs xs ys : List ℕ} {number n k l : ℕ} (read : StockRead f us vs xs ys number n k l) (none : number ≡ 0)
+  module _ {us vs xs ys : List ℕ} {n k l : ℕ} (h : StockHeld f us vs xs ys n k l) (none : stockFault f ≡ 0) (room : 2048 ≤ length o)
       {m : ℕ} (same : m ≡ n) {after : List ℕ} where
     pub plan-answered : PlanWritten (stockOf m (take k us) (take k vs) (take l xs) (take l ys)) o after r → PlanAnswered f o r after
     plan-answered w =
-        let p : isPlan (stockIn f) (w .pairs) ≡ true = subst (λ (s : Stock). isPlan s (w .pairs) ≡ true) (stock-is read none m same) (w .plan) in
-        let e : sheetFault f o ≡ 0 = file-fault f o room ∙ accepted read none in
+        let e : sheetFault f o ≡ 0 = file-fault f o room ∙ none in
+        let p : isPlan (stockIn f) (w .pairs) ≡ true = subst (λ (s : Stock). isPlan s (w .pairs) ≡ true) (stock-is h m same) (w .plan) in
         let z : eqb (sheetFault f o) 0 ≡ true = rw e in
         record { owes = (λ y. true-false z y, λ _. (w .pairs, (p, w .answers))); outcome = rw z (w .outcome) }
 
     pub sheet-answered : SheetWritten m (pairsOf k us vs) o after r → SheetAnswered f o r after
     sheet-answered w =
-        let h = read .held none in
+        let e : sheetFault f o ≡ 0 = file-fault f o room ∙ none in
         let v = rw (same, h .camerasAre, h .fitsAre) at (w .answers) in
-        let e : sheetFault f o ≡ 0 = file-fault f o room ∙ accepted read none in
         record { told = rw e (v .0); leaves = rw e (v .1); outcome = rw e (w .outcome) }

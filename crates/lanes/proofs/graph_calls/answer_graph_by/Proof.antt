@@ -1,26 +1,36 @@
 -- `lanes::graph_calls::answer_graph_by` meets its contract: refused, or what was written is what is owed.
-use mathlib.Core.Path.{sym}
+use mathlib.Core.Path.{_≡_, sym, _∙_}
 use Prim.Native.Nat.{_≤_}
 use native.Mathlib.Omega.{arith}
 use lib.Seq.{length-take-le}
-use Rattle.files.specs.Tables.{Holds}
-use Rattle.lanes.proofs.GraphCalls.{room-refused, file-refused, read-table, read-room, read-few, read-answered}
+use Rattle.files.specs.GraphFile.{graphFault}
+use Rattle.files.specs.Readers.{GraphHeld}
+use Rattle.files.proofs.ArcTables.{held-table}
+use Rattle.lanes.proofs.GraphCalls.{room-refused, file-refused, read-answered}
 use borrow.Author.Needs.{needs}
 use Rattle.lanes.proofs.graph_calls.answer_graph_by.Statement.{statement}
 use Rattle.lanes.proofs.graph_calls.answer_graph_by.Tie as tie
 
--- PLACES: question 1 answered yes, and the reading, seen from where no question refused
+-- PLACES: the start, seen from question 1 answered yes; that, seen from the reading; and the reading, seen from where no question refused
+abbrev start : tie.Else1 → tie.Start
+start c = c .before .before .before
+
 abbrev asked : tie.After-read-graph → tie.Else1
 asked c = c .before .before .before
 
 abbrev read : tie.Else2 → tie.After-read-graph
 read c = c .before .before .before
 
-room : (c : tie.Else2) → Holds (read c .read-graph .result .arcs) (read c .read-graph .last .1 .0) (read c .read-graph .last .1 .1 .0)
-room c = read-room (read c .read-graph .ensures) (c .if2 .left)
+none : (c : tie.Else2) → graphFault (start (asked (read c)) .args .file .now) ≡ 0
+none c = sym (read c .read-graph .ensures .says) ∙ c .if2 .left
+
+held : (c : tie.Else2) →
+    let g = read c .read-graph in
+    GraphHeld (start (asked (read c)) .args .file .now) (g .last .1 .0) (g .last .1 .1 .0) (g .result .pairs) (g .result .source) (g .result .arcs)
+held c = read c .read-graph .ensures .held (c .if2 .left)
 
 few : (c : tie.Else2) → read c .read-graph .result .pairs ≤ 128
-few c = read-few (read c .read-graph .ensures) (c .if2 .left)
+few c = held-table (held c) (none c) .pairs-few
 
 refused-requires : tie.Need-refused-requires
 refused-requires c κs = search needs
@@ -48,16 +58,16 @@ mul-nodes : tie.Need-mul-nodes
 mul-nodes c = omega (arith, few c)
 
 array-share-prefix-tails : tie.Need-array-share-prefix-tails
-array-share-prefix-tails c = room (c .before) .first
+array-share-prefix-tails c = held (c .before) .room .first
 
 slice-aggregate-write-graph : tie.Need-slice-aggregate-write-graph
-slice-aggregate-write-graph c = sym (length-take-le _ _ (room (c .before .before) .first))
+slice-aggregate-write-graph c = sym (length-take-le _ _ (held (c .before .before) .room .first))
 
 array-share-prefix-heads : tie.Need-array-share-prefix-heads
-array-share-prefix-heads c = room (c .before .before) .second
+array-share-prefix-heads c = held (c .before .before) .room .second
 
 slice-aggregate-write-graph-2 : tie.Need-slice-aggregate-write-graph-2
-slice-aggregate-write-graph-2 c = sym (length-take-le _ _ (room (c .before .before .before) .second))
+slice-aggregate-write-graph-2 c = sym (length-take-le _ _ (held (c .before .before .before) .room .second))
 
 array-borrow-prefix-class : tie.Need-array-borrow-prefix-class
 array-borrow-prefix-class c = omega (arith, few (c .before .before .before))
@@ -72,14 +82,14 @@ write-graph-requires : tie.Need-write-graph-requires
 write-graph-requires c κs =
     let a = c .before .before .before .before .before in
     let k = few a in
-    (read-table (read a .read-graph .ensures) (a .if2 .left), ((length-take-le _ _ (omega arith), omega arith), asked (read a) .if1 .left))
+    (held-table (held a) (none a), ((length-take-le _ _ (omega arith), omega arith), asked (read a) .if1 .left))
 
 same-length : tie.Need-same-length
 same-length c = search needs
 
 returns-3 : tie.Need-returns-3
 returns-3 c =
-    let a = c .before .before .before .before .before .before .before .before .before .before in read-answered (read a .read-graph .ensures) (a .if2 .left) (asked (read a) .if1 .left) (c .before .before .before .before .write-graph .ensures)
+    let a = c .before .before .before .before .before .before .before .before .before .before in read-answered (held a) (none a) (asked (read a) .if1 .left) (c .before .before .before .before .write-graph .ensures)
 
 pub answer-graph-by-spec : {M : Type 1} → statement M
 answer-graph-by-spec =

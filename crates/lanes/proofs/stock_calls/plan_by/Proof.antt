@@ -1,32 +1,38 @@
 -- `lanes::stock_calls::plan_by` meets its contract: refused, or what was written is what is owed.
-use mathlib.Core.Path.{refl, sym}
+use mathlib.Core.Path.{_≡_, refl, sym, _∙_}
 use native.Mathlib.Omega.{arith}
 use lib.Seq.{length-take-le}
-use Rattle.files.specs.Tables.{Holds}
-use Rattle.lanes.proofs.StockCalls.{fits-room, lit-room, stock-table, room-refused, file-refused, plan-refused, plan-answered}
+use Rattle.files.specs.StockFile.{stockFault}
+use Rattle.files.specs.Readers.{StockHeld}
+use Rattle.lanes.proofs.StockCalls.{stock-table, room-fault, file-fault, plan-refused, plan-answered}
 use borrow.Author.Needs.{needs}
 use Rattle.lanes.proofs.stock_calls.plan_by.Statement.{statement}
 use Rattle.lanes.proofs.stock_calls.plan_by.Tie as tie
 
--- PLACES: question 1 answered yes, and the reading, seen from where no question refused
+-- PLACES: the start, seen from question 1 answered yes; that, seen from the reading; and the reading, seen from where no question refused
+abbrev start : tie.Else1 → tie.Start
+start c = c .before .before .before
+
 abbrev asked : tie.After-read-stock → tie.Else1
 asked c = c .before .before .before .before .before
 
 abbrev read : tie.Else2 → tie.After-read-stock
 read c = c .before .before .before .before .before
 
-fits : (c : tie.Else2) → Holds (read c .read-stock .result .fits) (read c .read-stock .last .1 .0) (read c .read-stock .last .1 .1 .0)
-fits c = fits-room (read c .read-stock .ensures) (c .if2 .left)
+none : (c : tie.Else2) → stockFault (start (asked (read c)) .args .file .now) ≡ 0
+none c = sym (read c .read-stock .ensures .says) ∙ c .if2 .left
 
-lit : (c : tie.Else2) → Holds (read c .read-stock .result .lit) (read c .read-stock .last .1 .1 .1 .0) (read c .read-stock .last .1 .1 .1 .1 .0)
-lit c = lit-room (read c .read-stock .ensures) (c .if2 .left)
+held : (c : tie.Else2) →
+    let s = read c .read-stock in
+    StockHeld (start (asked (read c)) .args .file .now) (s .last .1 .0) (s .last .1 .1 .0) (s .last .1 .1 .1 .0) (s .last .1 .1 .1 .1 .0) (s .result .cameras) (s .result .fits) (s .result .lit)
+held c = read c .read-stock .ensures .held (c .if2 .left)
 
 refused-requires : tie.Need-refused-requires
 refused-requires c κs = search needs
 
 returns : tie.Need-returns
 returns c =
-    let a = c .before .before .before .before in plan-refused (room-refused (a .args .file .now) (a .args .out .now) (c .before .if1 .taken)) (λ z. omega arith) (c .refused .ensures)
+    let a = c .before .before .before .before in plan-refused (room-fault (a .args .file .now) (a .args .out .now) (c .before .if1 .taken)) (λ z. omega arith) (c .refused .ensures)
 
 slice-aggregate-read-stock : tie.Need-slice-aggregate-read-stock
 slice-aggregate-read-stock c = search needs
@@ -48,36 +54,36 @@ refused-requires-2 c κs = search needs
 
 returns-2 : tie.Need-returns-2
 returns-2 c =
-    let a = c .before .before .before .before .before .before in plan-refused (file-refused (asked a .before .before .before .args .out .now) (asked a .if1 .left) (a .read-stock .ensures)) (c .before .if2 .taken) (c .refused2 .ensures)
+    let a = c .before .before .before .before .before .before in plan-refused (file-fault (start (asked a) .args .file .now) (start (asked a) .args .out .now) (asked a .if1 .left) ∙ sym (a .read-stock .ensures .says)) (c .before .if2 .taken) (c .refused2 .ensures)
 
 array-share-prefix-firsts : tie.Need-array-share-prefix-firsts
-array-share-prefix-firsts c = fits (c .before) .first
+array-share-prefix-firsts c = held (c .before) .fitsRoom .first
 
 slice-aggregate-write-plan : tie.Need-slice-aggregate-write-plan
-slice-aggregate-write-plan c = sym (length-take-le _ _ (fits (c .before .before) .first))
+slice-aggregate-write-plan c = sym (length-take-le _ _ (held (c .before .before) .fitsRoom .first))
 
 array-share-prefix-seconds : tie.Need-array-share-prefix-seconds
-array-share-prefix-seconds c = fits (c .before .before) .second
+array-share-prefix-seconds c = held (c .before .before) .fitsRoom .second
 
 slice-aggregate-write-plan-2 : tie.Need-slice-aggregate-write-plan-2
-slice-aggregate-write-plan-2 c = sym (length-take-le _ _ (fits (c .before .before .before) .second))
+slice-aggregate-write-plan-2 c = sym (length-take-le _ _ (held (c .before .before .before) .fitsRoom .second))
 
 array-share-prefix-lit-firsts : tie.Need-array-share-prefix-lit-firsts
-array-share-prefix-lit-firsts c = lit (c .before .before .before) .first
+array-share-prefix-lit-firsts c = held (c .before .before .before) .litRoom .first
 
 slice-aggregate-write-plan-3 : tie.Need-slice-aggregate-write-plan-3
-slice-aggregate-write-plan-3 c = sym (length-take-le _ _ (lit (c .before .before .before .before) .first))
+slice-aggregate-write-plan-3 c = sym (length-take-le _ _ (held (c .before .before .before .before) .litRoom .first))
 
 array-share-prefix-lit-seconds : tie.Need-array-share-prefix-lit-seconds
-array-share-prefix-lit-seconds c = lit (c .before .before .before .before) .second
+array-share-prefix-lit-seconds c = held (c .before .before .before .before) .litRoom .second
 
 slice-aggregate-write-plan-4 : tie.Need-slice-aggregate-write-plan-4
-slice-aggregate-write-plan-4 c = sym (length-take-le _ _ (lit (c .before .before .before .before .before) .second))
+slice-aggregate-write-plan-4 c = sym (length-take-le _ _ (held (c .before .before .before .before .before) .litRoom .second))
 
 write-plan-requires : tie.Need-write-plan-requires
 write-plan-requires c κs =
     let a = c .before .before .before .before .before in
-    (stock-table (read a .read-stock .ensures) (a .if2 .left) _ refl, asked (read a) .if1 .left)
+    (stock-table (held a) (none a) _ refl, asked (read a) .if1 .left)
 
 same-length : tie.Need-same-length
 same-length c = search needs
@@ -85,7 +91,7 @@ same-length c = search needs
 returns-3 : tie.Need-returns-3
 returns-3 c =
     let a = c .before .before .before .before .before .before .before .before in
-    plan-answered (asked (read a) .if1 .left) (read a .read-stock .ensures) (a .if2 .left) refl (c .before .before .write-plan .ensures)
+    plan-answered (held a) (none a) (asked (read a) .if1 .left) refl (c .before .before .write-plan .ensures)
 
 pub plan-by-spec : {M : Type 1} → statement M
 plan-by-spec =

@@ -1,36 +1,42 @@
 -- `lanes::stock_calls::sheet_by` meets its contract: refused, or what was written is what is owed.
-use mathlib.Core.Path.{sym}
+use mathlib.Core.Path.{_≡_, sym, _∙_}
 use Prim.Native.Nat.{_≤_}
 use native.Mathlib.Omega.{arith}
 use lib.Seq.{length-take-le}
-use Rattle.files.specs.Tables.{Holds}
-use Rattle.lanes.proofs.StockCalls.{fits-room, lit-room, cameras-few, stock-table, room-refused, file-refused, sheet-refused, sheet-answered}
+use Rattle.files.specs.StockFile.{stockFault}
+use Rattle.files.specs.Readers.{StockHeld}
+use Rattle.lanes.proofs.StockCalls.{cameras-few, stock-table, room-fault, file-fault, sheet-refused, sheet-answered}
 use borrow.Author.Needs.{needs}
 use Rattle.lanes.proofs.stock_calls.sheet_by.Statement.{statement}
 use Rattle.lanes.proofs.stock_calls.sheet_by.Tie as tie
 
--- PLACES: question 1 answered yes, and the reading, seen from where no question refused
+-- PLACES: the start, seen from question 1 answered yes; that, seen from the reading; and the reading, seen from where no question refused
+abbrev start : tie.Else1 → tie.Start
+start c = c .before .before .before
+
 abbrev asked : tie.After-read-stock → tie.Else1
 asked c = c .before .before .before .before .before
 
 abbrev read : tie.Else2 → tie.After-read-stock
 read c = c .before .before .before .before .before
 
-fits : (c : tie.Else2) → Holds (read c .read-stock .result .fits) (read c .read-stock .last .1 .0) (read c .read-stock .last .1 .1 .0)
-fits c = fits-room (read c .read-stock .ensures) (c .if2 .left)
+none : (c : tie.Else2) → stockFault (start (asked (read c)) .args .file .now) ≡ 0
+none c = sym (read c .read-stock .ensures .says) ∙ c .if2 .left
 
-lit : (c : tie.Else2) → Holds (read c .read-stock .result .lit) (read c .read-stock .last .1 .1 .1 .0) (read c .read-stock .last .1 .1 .1 .1 .0)
-lit c = lit-room (read c .read-stock .ensures) (c .if2 .left)
+held : (c : tie.Else2) →
+    let s = read c .read-stock in
+    StockHeld (start (asked (read c)) .args .file .now) (s .last .1 .0) (s .last .1 .1 .0) (s .last .1 .1 .1 .0) (s .last .1 .1 .1 .1 .0) (s .result .cameras) (s .result .fits) (s .result .lit)
+held c = read c .read-stock .ensures .held (c .if2 .left)
 
 few : (c : tie.Else2) → read c .read-stock .result .cameras ≤ 127
-few c = cameras-few (read c .read-stock .ensures) (c .if2 .left)
+few c = cameras-few (held c) (none c)
 
 refused-requires : tie.Need-refused-requires
 refused-requires c κs = search needs
 
 returns : tie.Need-returns
 returns c =
-    let a = c .before .before .before .before in sheet-refused (room-refused (a .args .file .now) (a .args .out .now) (c .before .if1 .taken)) (λ z. omega arith) (c .refused .ensures)
+    let a = c .before .before .before .before in sheet-refused (room-fault (a .args .file .now) (a .args .out .now) (c .before .if1 .taken)) (λ z. omega arith) (c .refused .ensures)
 
 slice-aggregate-read-stock : tie.Need-slice-aggregate-read-stock
 slice-aggregate-read-stock c = search needs
@@ -52,7 +58,7 @@ refused-requires-2 c κs = search needs
 
 returns-2 : tie.Need-returns-2
 returns-2 c =
-    let a = c .before .before .before .before .before .before in sheet-refused (file-refused (asked a .before .before .before .args .out .now) (asked a .if1 .left) (a .read-stock .ensures)) (c .before .if2 .taken) (c .refused2 .ensures)
+    let a = c .before .before .before .before .before .before in sheet-refused (file-fault (start (asked a) .args .file .now) (start (asked a) .args .out .now) (asked a .if1 .left) ∙ sym (a .read-stock .ensures .says)) (c .before .if2 .taken) (c .refused2 .ensures)
 
 array-borrow-prefix-marks : tie.Need-array-borrow-prefix-marks
 array-borrow-prefix-marks c = omega (arith, few (c .before))
@@ -61,34 +67,34 @@ slice-aggregate-write-sheet : tie.Need-slice-aggregate-write-sheet
 slice-aggregate-write-sheet c = let k = few (c .before .before) in sym (length-take-le _ _ (omega arith))
 
 array-share-prefix-firsts : tie.Need-array-share-prefix-firsts
-array-share-prefix-firsts c = fits (c .before .before) .first
+array-share-prefix-firsts c = held (c .before .before) .fitsRoom .first
 
 slice-aggregate-write-sheet-2 : tie.Need-slice-aggregate-write-sheet-2
-slice-aggregate-write-sheet-2 c = sym (length-take-le _ _ (fits (c .before .before .before) .first))
+slice-aggregate-write-sheet-2 c = sym (length-take-le _ _ (held (c .before .before .before) .fitsRoom .first))
 
 array-share-prefix-seconds : tie.Need-array-share-prefix-seconds
-array-share-prefix-seconds c = fits (c .before .before .before) .second
+array-share-prefix-seconds c = held (c .before .before .before) .fitsRoom .second
 
 slice-aggregate-write-sheet-3 : tie.Need-slice-aggregate-write-sheet-3
-slice-aggregate-write-sheet-3 c = sym (length-take-le _ _ (fits (c .before .before .before .before) .second))
+slice-aggregate-write-sheet-3 c = sym (length-take-le _ _ (held (c .before .before .before .before) .fitsRoom .second))
 
 array-share-prefix-lit-firsts : tie.Need-array-share-prefix-lit-firsts
-array-share-prefix-lit-firsts c = lit (c .before .before .before .before) .first
+array-share-prefix-lit-firsts c = held (c .before .before .before .before) .litRoom .first
 
 slice-aggregate-write-sheet-4 : tie.Need-slice-aggregate-write-sheet-4
-slice-aggregate-write-sheet-4 c = sym (length-take-le _ _ (lit (c .before .before .before .before .before) .first))
+slice-aggregate-write-sheet-4 c = sym (length-take-le _ _ (held (c .before .before .before .before .before) .litRoom .first))
 
 array-share-prefix-lit-seconds : tie.Need-array-share-prefix-lit-seconds
-array-share-prefix-lit-seconds c = lit (c .before .before .before .before .before) .second
+array-share-prefix-lit-seconds c = held (c .before .before .before .before .before) .litRoom .second
 
 slice-aggregate-write-sheet-5 : tie.Need-slice-aggregate-write-sheet-5
-slice-aggregate-write-sheet-5 c = sym (length-take-le _ _ (lit (c .before .before .before .before .before .before) .second))
+slice-aggregate-write-sheet-5 c = sym (length-take-le _ _ (held (c .before .before .before .before .before .before) .litRoom .second))
 
 write-sheet-requires : tie.Need-write-sheet-requires
 write-sheet-requires c κs =
     let a = c .before .before .before .before .before .before in
     let k = few a in
-    (stock-table (read a .read-stock .ensures) (a .if2 .left) _ (length-take-le _ _ (omega arith)), asked (read a) .if1 .left)
+    (stock-table (held a) (none a) _ (length-take-le _ _ (omega arith)), asked (read a) .if1 .left)
 
 same-length : tie.Need-same-length
 same-length c = search needs
@@ -97,7 +103,7 @@ returns-3 : tie.Need-returns-3
 returns-3 c =
     let a = c .before .before .before .before .before .before .before .before .before .before in
     let k = few a in
-    sheet-answered (asked (read a) .if1 .left) (read a .read-stock .ensures) (a .if2 .left) (length-take-le _ _ (omega arith)) (c .before .before .before .write-sheet .ensures)
+    sheet-answered (held a) (none a) (asked (read a) .if1 .left) (length-take-le _ _ (omega arith)) (c .before .before .before .write-sheet .ensures)
 
 pub sheet-by-spec : {M : Type 1} → statement M
 sheet-by-spec =
