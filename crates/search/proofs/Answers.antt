@@ -4,9 +4,11 @@
 --   restorable, path-written      the source's mate is reached: the path is restored
 --   reached-only             every reached node is reachable
 --   exhausted                the source's mate is not reached
---   sought-searched          what the search with its tables lent leaves is what a call owes that asks for no classes
---   path-answered            and, where there is a path, one that asks for them
+--   path-explored            there is a path: nothing is left to do
 --   sought-none              there is none: what the tables show
+--   none-explored            and what is left once the class table, where one is lent, is filled
+--   explored-searched        which is what a call owes that asks for no classes
+--   explored-answered        and one that asks for them
 --   wanted-front             the path written, read back
 --   front-clear              the front of a table of zeros is clear
 use mathlib.Core.Path.{_≡_, refl, sym, ap, subst, _∙_}
@@ -23,7 +25,7 @@ use Rattle.formats.specs.Limits.{arcsMost}
 use Rattle.counting.proofs.Booleans.{and-left, by-test}
 use Rattle.counting.proofs.Range.{pigeonhole}
 use Rattle.counting.proofs.Stores.{take-sets}
-use Rattle.skew.specs.Graph.{Graph, mate, nodes, nodesAlong, endOf, isRegular, isWanted}
+use Rattle.skew.specs.Graph.{Graph, mate, nodes, nodesAlong, endOf, isRegular, isWanted, canonical}
 use Rattle.skew.specs.Paths.{head, WellFormed}
 use Rattle.skew.specs.Search.{State, Earlier}
 use Rattle.skew.proofs.Paths.{regular-path, nodes-within, length-nodes}
@@ -34,7 +36,7 @@ use Rattle.search.specs.State.{stateOf, Clear}
 use Rattle.search.specs.Queue.{Ended}
 use Rattle.search.specs.Restore.{Route, LabelTable, Restorable, Restored}
 use Rattle.search.specs.ClassTable.{Exhausted}
-use Rattle.search.specs.Answer.{PathWritten, ReachedOnly, PathSought, Searched, Answered}
+use Rattle.search.specs.Answer.{PathWritten, ReachedOnly, PathSought, Explored, Searched, Answered}
 use Rattle.search.specs.declared.answer.Answer.{Answer}
 use Rattle.search.specs.declared.answer.Answer.the-variants.{Path, NoPath}
 use Rattle.arcs.proofs.Tables.{arc-in, tail-is, head-is}
@@ -105,19 +107,29 @@ module _ (n s : ℕ) (ts hs bs vs ss ms : List ℕ) (r : Bool) (E : Ended n s ts
     pub exhausted : Exhausted n s ts hs bs vs ss
     exhausted = let C = E .closed none in record { clock = E .clock; search = E .search; closed = C .0; shut = C .1 }
 
--- THE TWO CALLS
+-- WITH A CLASS TABLE
 module _ (n s : ℕ) (ts hs p p′ bs vs ss ms : List ℕ) where
-  pub sought-searched : (a : Answer) → PathSought n s ts hs a p p′ bs vs ss ms → Searched (graphOf n s ts hs) a p p′ bs
-  sought-searched (Path k) F = F
-  sought-searched NoPath F = (no-path n s ts hs bs vs ss (F .1), F .0, table-reached n s ts hs bs vs ss (F .1))
-
-  pub path-answered : (a : Answer) (k : ℕ) (cs : List ℕ) → a ≡ Path k → PathSought n s ts hs a p p′ bs vs ss ms → Answered (graphOf n s ts hs) a p p′ cs cs
-  path-answered a k cs e F =
-      let W : PathWritten (graphOf n s ts hs) k p p′ = subst (λ (x : Answer). PathSought n s ts hs x p p′ bs vs ss ms) e F .0 in
-      subst (λ (x : Answer). Answered (graphOf n s ts hs) x p p′ cs cs) (sym e) (W, refl)
+  pub path-explored : (a : Answer) (k : ℕ) (cs : List ℕ) → a ≡ Path k → PathSought n s ts hs a p p′ bs vs ss ms → Explored (graphOf n s ts hs) a p p′ bs cs cs
+  path-explored a k cs e F =
+      let W = subst (λ (x : Answer). PathSought n s ts hs x p p′ bs vs ss ms) e F in
+      subst (λ (x : Answer). Explored (graphOf n s ts hs) x p p′ bs cs cs) (sym e) (W .0, W .1, refl)
 
   pub sought-none : (a : Answer) → a ≡ NoPath → PathSought n s ts hs a p p′ bs vs ss ms → PathSought n s ts hs NoPath p p′ bs vs ss ms
   sought-none a e F = subst (λ (x : Answer). PathSought n s ts hs x p p′ bs vs ss ms) e F
+
+  pub none-explored : (cs cs′ : List ℕ) → PathSought n s ts hs NoPath p p′ bs vs ss ms → (0 < length cs → cs′ ≡ canonical (graphOf n s ts hs)) →
+      Explored (graphOf n s ts hs) NoPath p p′ bs cs cs′
+  none-explored cs cs′ F h = (no-path n s ts hs bs vs ss (F .1), F .0, table-reached n s ts hs bs vs ss (F .1), h)
+
+-- THE TWO CALLS
+module _ (g : Graph) (p p′ rs cs cs′ : List ℕ) where
+  pub explored-searched : (a : Answer) → Explored g a p p′ rs cs cs′ → Searched g a p p′ rs
+  explored-searched (Path k) F = (F .0, F .1)
+  explored-searched NoPath F = (F .0, F .1, F .2)
+
+  pub explored-answered : (a : Answer) → 0 < length cs → Explored g a p p′ rs cs cs′ → Answered g a p p′ cs cs′
+  explored-answered (Path k) h F = (F .0, F .2)
+  explored-answered NoPath h F = (F .0, F .1, F .3 h)
 
 pub wanted-front : {g : Graph} {k : ℕ} {p p′ : List ℕ} → PathWritten g k p p′ → k ≤ length p → isWanted g (take k p′) ≡ true
 wanted-front {p = p} W h = let c = W .count in rw (W .written, c, take-sets p (W .arcs) (omega arith)) (W .wanted)

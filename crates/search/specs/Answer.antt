@@ -3,7 +3,9 @@
 --   ReachedOnly g rs                  every node that rs has a number for is reachable
 --   PathSought n s ts hs a p p′ ..    Path k: it is written, and only reachable nodes are reached.
 --                                     NoPath: the path's table is as it was, and the state shows that there is none
---   Searched g a p p′ rs              Path k: as above. NoPath: there is none; rs is 0 exactly at the nodes that are not reachable
+--   Explored g a p p′ rs cs cs′       Path k: as above, and the classes are as they were. NoPath: there is none; rs is 0 exactly at the nodes that are
+--                                     not reachable, and cs′, where a class table is lent, is the canonical barrier
+--   Searched g a p p′ rs              the same without classes
 --   Answered g a p p′ cs cs′          Path k: it is written, the classes are as they were. NoPath: there is none; cs′ is the canonical barrier
 use mathlib.Core.Path.{_≡_}
 use mathlib.Core.Bool.{true, false}
@@ -32,6 +34,11 @@ ReachedOnly g rs = (v : ℕ) → ltb 0 (getD rs v 0) ≡ true → isReachable g 
 abbrev pub PathSought : (n s : ℕ) (ts hs : List ℕ) → Answer → (before after births vias bases marks : List ℕ) → Type 0
 PathSought n s ts hs (Path k) p p′ bs vs ss ms = PathWritten (graphOf n s ts hs) k p p′ × ReachedOnly (graphOf n s ts hs) bs
 PathSought n s ts hs NoPath p p′ bs vs ss ms = (p′ ≡ p) × Exhausted n s ts hs bs vs ss × Clear (graphOf n s ts hs) ms
+
+abbrev pub Explored : Graph → Answer → (before after reached classes classes′ : List ℕ) → Type 0
+Explored g (Path k) p p′ rs cs cs′ = PathWritten g k p p′ × ReachedOnly g rs × (cs′ ≡ cs)
+Explored g NoPath p p′ rs cs cs′ =
+    (hasPath g ≡ false) × (p′ ≡ p) × ((v : ℕ) → isReachable g v ≡ ltb 0 (getD rs v 0)) × (0 < length cs → cs′ ≡ canonical g)
 
 abbrev pub Searched : Graph → Answer → (before after reached : List ℕ) → Type 0
 Searched g (Path k) p p′ rs = PathWritten g k p p′ × ReachedOnly g rs

@@ -1,14 +1,13 @@
--- The path was written, or the classes are.
-use Rattle.search.proofs.ClassTables.{no-path}
-use Rattle.search.proofs.Answers.{path-answered, sought-none}
+-- The path was written; or the classes are, where a table for them is lent.
+use native.Mathlib.Omega.{arith}
+use Rattle.search.proofs.Answers.{path-explored, sought-none, none-explored}
 use borrow.Author.Needs.{needs}
 use Rattle.search.proofs.answer.answer_in.Statement.{statement}
 use Rattle.search.proofs.answer.answer_in.Tie as tie
 
 find-path-requires : tie.Need-find-path-requires
 find-path-requires c κs =
-    let pre = c .before .before .before .before .before .before .before .before .before .before .before .before .before .before .before .pre in
-    (pre .0, (pre .1 .0, (pre .1 .1 .0, pre .1 .1 .1 .1)))
+    let pre = c .before .before .before .before .before .before .before .before .before .before .before .before .before .before .before .pre in (pre .0, (pre .1 .0, (pre .1 .1 .0, pre .1 .1 .1 .1)))
 
 enum-told : tie.Need-enum-told
 enum-told c = search needs
@@ -37,14 +36,14 @@ same-length-6 c = search needs
 returns : tie.Need-returns
 returns c =
     let find-path = c .before .before .before .before .before .before .before .before .before .before .before .before .before .before .find-path in
-    path-answered _ _ _ _ _ _ _ _ _ _ (find-path .result) _ _ (c .enum-told2 .given .1) (find-path .ensures)
+    path-explored _ _ _ _ _ _ _ _ _ _ (find-path .result) _ _ (c .enum-told2 .given .1) (find-path .ensures)
 
 classes-requires : tie.Need-classes-requires
 classes-requires c κs =
-    let pre = c .before .before .before .before .before .before .before .before .before .before .before .before .before .before .before .before .before .before .before .before .before .before .before .before .before .before .before .before .before .before .before .before .before .before .before .pre in
-    let find-path = c .before .before .before .before .before .before .before .before .before .before .before .before .before .before .before .before .before .before .before .find-path in
-    let none = sought-none _ _ _ _ _ _ _ _ _ _ (find-path .result) (c .before .before .before .before .before .enum-told .given .1) (find-path .ensures) in
-    (none .1, (none .2, pre .1 .1 .1 .0))
+    let pre = c .before .before .before .before .before .before .before .before .before .before .before .before .before .before .before .before .before .before .before .before .before .before .before .before .before .before .before .before .before .before .before .before .before .before .before .before .pre in
+    let find-path = c .before .before .before .before .before .before .before .before .before .before .before .before .before .before .before .before .before .before .before .before .find-path in
+    let none = sought-none _ _ _ _ _ _ _ _ _ _ (find-path .result) (c .before .before .before .before .before .before .enum-told .given .1) (find-path .ensures) in
+    (none .1, (none .2, pre .1 .1 .1 .0 (c .before .before .before .before .before .if1 .taken)))
 
 same-length-7 : tie.Need-same-length-7
 same-length-7 c = search needs
@@ -69,10 +68,33 @@ same-length-13 c = search needs
 
 returns-2 : tie.Need-returns-2
 returns-2 c =
-    let find-path = c .before .before .before .before .before .before .before .before .before .before .before .before .before .before .before .before .before .before .before .before .before .before .before .before .find-path in
-    let classes = c .before .before .before .before .classes in
-    let none = sought-none _ _ _ _ _ _ _ _ _ _ (find-path .result) (c .before .before .before .before .before .before .before .before .before .before .enum-told .given .1) (find-path .ensures) in
-    (no-path _ _ _ _ _ _ _ (none .1), none .0, classes .ensures)
+    let find-path = c .before .before .before .before .before .before .before .before .before .before .before .before .before .before .before .before .before .before .before .before .before .before .before .before .before .find-path in
+    let none = sought-none _ _ _ _ _ _ _ _ _ _ (find-path .result) (c .before .before .before .before .before .before .before .before .before .before .before .enum-told .given .1) (find-path .ensures) in
+    none-explored _ _ _ _ _ _ _ _ _ _ (c .before .before .before .before .before .before .before .before .before .before .before .before .before .before .before .before .before .before .before .before .before .before .before .before .before .before .before .before .before .before .before .before .before .before .before .before .before .before .before .before .before .args .class .now) _ none (λ l. c .before .before .before .before .classes .ensures)
+
+same-length-14 : tie.Need-same-length-14
+same-length-14 c = search needs
+
+same-length-15 : tie.Need-same-length-15
+same-length-15 c = search needs
+
+same-length-16 : tie.Need-same-length-16
+same-length-16 c = search needs
+
+same-length-17 : tie.Need-same-length-17
+same-length-17 c = search needs
+
+same-length-18 : tie.Need-same-length-18
+same-length-18 c = search needs
+
+same-length-19 : tie.Need-same-length-19
+same-length-19 c = search needs
+
+returns-3 : tie.Need-returns-3
+returns-3 c =
+    let find-path = c .before .before .before .before .before .before .before .before .before .before .before .before .before .before .before .find-path in
+    let none = sought-none _ _ _ _ _ _ _ _ _ _ (find-path .result) (c .before .enum-told .given .1) (find-path .ensures) in
+    none-explored _ _ _ _ _ _ _ _ _ _ (c .before .before .before .before .before .before .before .before .before .before .before .before .before .before .before .before .before .before .before .before .before .before .before .before .before .before .before .before .before .before .before .args .class .now) _ none (λ l. absurd (omega (arith, l, c .if1 .left)))
 
 pub answer-in-spec : {M : Type 1} → statement M
 answer-in-spec =
@@ -96,4 +118,11 @@ answer-in-spec =
     same-length-11
     same-length-12
     same-length-13
-    returns-2)
+    returns-2
+    same-length-14
+    same-length-15
+    same-length-16
+    same-length-17
+    same-length-18
+    same-length-19
+    returns-3)

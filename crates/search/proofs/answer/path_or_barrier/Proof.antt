@@ -1,9 +1,9 @@
--- The fronts of the local tables are lent.
+-- The search with the class table lent, and a table of births that is its own.
 use mathlib.Core.Path.{sym}
 use native.Mathlib.Omega.{arith}
 use lib.Seq.{length-take-le}
 use Rattle.arcs.specs.Table.{graphOf}
-use Rattle.search.proofs.Answers.{front-clear}
+use Rattle.search.proofs.Answers.{front-clear, explored-answered}
 use borrow.Author.Needs.{needs}
 use Rattle.search.proofs.answer.path_or_barrier.Statement.{statement}
 use Rattle.search.proofs.answer.path_or_barrier.Tie as tie
@@ -14,58 +14,16 @@ mul-nodes c = search needs
 array-borrow-prefix-birth : tie.Need-array-borrow-prefix-birth
 array-borrow-prefix-birth c = search needs
 
-slice-aggregate-answer-in : tie.Need-slice-aggregate-answer-in
-slice-aggregate-answer-in c =
-    let pre = c .before .before .before .before .before .pre in
-    sym (length-take-le _ _ (omega (arith, pre .0 .pairs-few)))
+slice-aggregate-explore : tie.Need-slice-aggregate-explore
+slice-aggregate-explore c =
+    let pre = c .before .before .before .before .before .pre in sym (length-take-le _ _ (omega (arith, pre .0 .pairs-few)))
 
-array-borrow-prefix-via : tie.Need-array-borrow-prefix-via
-array-borrow-prefix-via c = search needs
-
-slice-aggregate-answer-in-2 : tie.Need-slice-aggregate-answer-in-2
-slice-aggregate-answer-in-2 c =
-    let pre = c .before .before .before .before .before .before .pre in
-    sym (length-take-le _ _ (omega (arith, pre .0 .pairs-few)))
-
-array-borrow-prefix-base : tie.Need-array-borrow-prefix-base
-array-borrow-prefix-base c = search needs
-
-slice-aggregate-answer-in-3 : tie.Need-slice-aggregate-answer-in-3
-slice-aggregate-answer-in-3 c =
+explore-requires : tie.Need-explore-requires
+explore-requires c κs =
+    let args = c .before .before .before .before .before .before .before .args in
     let pre = c .before .before .before .before .before .before .before .pre in
-    sym (length-take-le _ _ (omega (arith, pre .0 .pairs-few)))
-
-array-borrow-prefix-mark : tie.Need-array-borrow-prefix-mark
-array-borrow-prefix-mark c = search needs
-
-slice-aggregate-answer-in-4 : tie.Need-slice-aggregate-answer-in-4
-slice-aggregate-answer-in-4 c =
-    let pre = c .before .before .before .before .before .before .before .before .pre in
-    sym (length-take-le _ _ (omega (arith, pre .0 .pairs-few)))
-
-array-borrow-prefix-queue : tie.Need-array-borrow-prefix-queue
-array-borrow-prefix-queue c = search needs
-
-slice-aggregate-answer-in-5 : tie.Need-slice-aggregate-answer-in-5
-slice-aggregate-answer-in-5 c =
-    let pre = c .before .before .before .before .before .before .before .before .before .pre in
-    sym (length-take-le _ _ (omega (arith, pre .0 .pairs-few)))
-
-answer-in-requires : tie.Need-answer-in-requires
-answer-in-requires c κs =
-    let args = c .before .before .before .before .before .before .before .before .before .before .before .args in
-    let pre = c .before .before .before .before .before .before .before .before .before .before .before .pre in
     let g = graphOf (args .pairs) (args .source) (args .tails .now) (args .heads .now) in
-    let clear = front-clear g 256 (omega (arith, pre .0 .pairs-few)) in (
-      pre .0,
-      (
-        (clear, clear),
-        (
-          (length-take-le _ _ (omega (arith, pre .0 .pairs-few)), length-take-le _ _ (omega (arith, pre .0 .pairs-few)), length-take-le _ _ (omega (arith, pre .0 .pairs-few))),
-          pre .1,
-        ),
-      ),
-    )
+    (pre .0, (front-clear g 256 (omega (arith, pre .0 .pairs-few)), ((λ l. pre .1 .0), pre .1 .1)))
 
 same-length : tie.Need-same-length
 same-length c = search needs
@@ -74,7 +32,10 @@ same-length-2 : tie.Need-same-length-2
 same-length-2 c = search needs
 
 returns : tie.Need-returns
-returns c = search needs
+returns c =
+    let pre = c .before .before .before .before .before .before .before .before .before .before .before .before .before .pre in
+    let explore = c .before .before .before .before .before .explore in
+    explored-answered _ _ _ _ _ _ (explore .result) (omega (arith, pre .1 .0, pre .0 .well-formed .source-node)) (explore .ensures)
 
 pub path-or-barrier-spec : {M : Type 1} → statement M
 path-or-barrier-spec =
@@ -82,16 +43,8 @@ path-or-barrier-spec =
     (tie.spec
     mul-nodes
     array-borrow-prefix-birth
-    slice-aggregate-answer-in
-    array-borrow-prefix-via
-    slice-aggregate-answer-in-2
-    array-borrow-prefix-base
-    slice-aggregate-answer-in-3
-    array-borrow-prefix-mark
-    slice-aggregate-answer-in-4
-    array-borrow-prefix-queue
-    slice-aggregate-answer-in-5
-    answer-in-requires
+    slice-aggregate-explore
+    explore-requires
     same-length
     same-length-2
     returns)
