@@ -6,8 +6,11 @@
 --   secondsOf xs       the second number of each pair (document 03)
 --   zipPairs xs ys     two lists, pair by pair, as far as both go
 --   pairsOf n xs ys    the first n elements of both
+--   pairNamed n x      both numbers of a pair are below n
+use mathlib.Core.Bool.{Bool, _&&_}
 use mathlib.Core.List.{List, [], _∷_}
 use Prim.Native.Nat.{ℕ}
+use lib.Dec.{ltb}
 use lib.ListN.{take}
 
 pub record Pair : Type 0 where
@@ -39,3 +42,6 @@ zipPairs (x ∷ xs) (y ∷ ys) = pair x y ∷ zipPairs xs ys
 
 abbrev pub pairsOf : (count : ℕ) → (firsts seconds : List ℕ) → List Pair
 pairsOf n xs ys = zipPairs (take n xs) (take n ys)
+
+abbrev pub pairNamed : (bound : ℕ) → Pair → Bool
+pairNamed n x = ltb (x .first) n && ltb (x .second) n

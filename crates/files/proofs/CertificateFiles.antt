@@ -1,172 +1,187 @@
 -- The questions of a certificate, one after the other.
---   path-shape, path-many, path-arc, path-none          a path: refused by 2 to 7, by 8, by 9, or by none
---   path-room                                           its arc numbers can be stored
---   barrier-shape, barrier-size, barrier-order, barrier-none, barrier-room, barrier-holds    the same of a barrier
-use mathlib.Core.Path.{_≡_, refl, ap, sym, _∙_}
-use mathlib.Core.Bool.{Bool, true, false}
-use mathlib.Core.List.{List}
+--   path-shape, path-many                           a path refused by 2 to 8, before anything is stored
+--   path-room, path-holds, path-read                its arc numbers can be stored, and asked; what is answered then
+--   path-says, path-small, path-held                of what is answered: document 03's fault over a graph, at most 9, and the arc numbers held
+--   barrier-shape, barrier-size, barrier-room, barrier-holds, barrier-read, barrier-says, barrier-small, barrier-held
+--                                                   the same of a barrier
+use mathlib.Core.Path.{_≡_, refl, ap, subst, sym, _∙_}
+use mathlib.Core.Logic.{_≢_}
+use mathlib.Core.Bool.{Bool, true}
+use mathlib.Core.List.{List, [], _∷_, _++_}
 use Prim.Native.Nat.{ℕ, _≤_, _<_}
 use native.Mathlib.Omega.{arith}
 use lib.Dec.{eqb, ltb, leb}
-use borrow.Author.Tests.{eq-eqb, ne-eqb, ltb-true, le-leb, lt-leb}
+use borrow.Author.Tests.{eq-eqb, ne-eqb, ltb-true, leb-true, le-leb, lt-leb}
 use lib.ListN.{length, take}
 use Rattle.counting.specs.Tests.{all}
-use Rattle.counting.specs.Pairs.{pairsOf}
-use Rattle.counting.proofs.Booleans.{by-test}
+use Rattle.counting.specs.Pairs.{Pair, pairsOf}
 use Rattle.counting.proofs.Membership.{all-getD}
-use Rattle.frames.specs.Frames.{orElse, unless, isWholeFile, Form, pathForm, barrierForm, hasHeader, hasBody, countAgrees, shapeFault, bodyLines, pairsIn}
-use Rattle.frames.specs.Shape.{ShapeAnswer}
-use Rattle.frames.specs.Stores.{runAt, Storable, StoredPairs, StoredNumbers}
-use Rattle.frames.proofs.Questions.{or-stop, or-go}
-use Rattle.frames.proofs.StoredBodies.{body-storable, only-size, only-pairs, only-numbers}
+use Rattle.frames.specs.Frames.{unless, pathForm, barrierForm, bodyLines, pairsIn}
+use Rattle.frames.specs.Questions.{Question, ask, firstNo, areNumbered}
+use Rattle.frames.specs.Shape.{shapeQuestions, Shaped, ShapeAnswer}
+use Rattle.frames.specs.Lines.{lineAfter}
+use Rattle.frames.specs.Stores.{runAt, Storable, PairsStored, NumbersStored, StoredPairs, StoredNumbers}
+use Rattle.frames.proofs.Questions.{first-stop, first-go, first-none, accepted, refusal-is, answered-none, beside-same, beside-refused}
+use Rattle.frames.proofs.ShapeFaults.{shape-asked, sized-shape, sized-eight, answer-shaped}
+use Rattle.frames.proofs.Stores.{stored-as, numbers-length}
+use Rattle.frames.proofs.StoredBodies.{body-storable, only-size, only-pairs, only-count, only-numbers}
 use Rattle.skew.specs.Graph.{Graph, nodes}
 use Rattle.files.specs.Tables.{Holds}
-use Rattle.files.specs.CertificateFile.{pathArcs, pathFault, namesInOrder, barrierFault}
-use Rattle.files.specs.CertificateReaders.{PathRead, BarrierRead}
-use Rattle.files.proofs.Tables.{seconds-are}
+use Rattle.files.specs.CertificateFile.{pathArcs, pathFault, pathSized, pathQuestions, namesInOrder, barrierFault, barrierSized, barrierQuestions}
+use Rattle.files.specs.CertificateReaders.{CertificateTold, CertificateAnswer, PathHeld, PathRead, BarrierHeld, BarrierRead}
+use Rattle.files.proofs.Tables.{stored-all, all-numbers, all-pairs, no-numbers, no-pairs, seconds-are, back-numbers, back-holds, back-pairs}
+use Rattle.files.proofs.Asked.{path-asked, barrier-asked}
 
--- REFUSALS are at most 9
-or-small : (a b n : ℕ) → a ≤ n → b ≤ n → orElse a b ≤ n
-or-small a b n h k = by-test (eqb a 0) (λ e. rw e k) (λ e. rw e h)
+-- BESIDE A NUMBER
+module _ {f : List ℕ} (qs : List Question) (nine : Bool) {m n c : ℕ} where
+  refused-early : m ≡ firstNo qs → m ≢ 0 → CertificateTold m 0 n c → CertificateAnswer (qs ++ ask 9 nine ∷ []) f n c
+  refused-early e h t =
+      record {
+        says = t .0 ∙ e ∙ sym (first-stop qs (ask 9 nine ∷ []) (λ q. h (e ∙ q)));
+        counts = beside-refused 0 (length (bodyLines f)) h (t .0) (t .1);
+      }
 
-unless-small : (z : Bool) (m n : ℕ) → m ≤ n → unless z m ≤ n
-unless-small true m n h = omega arith
-unless-small false m n h = h
-
-shape-small : (k : Form) (f : List ℕ) (z : Bool) → shapeFault k f z ≤ 9
-shape-small k f z =
-    or-small _ _ 9 (unless-small (leb (length f) 60000) 2 9 (omega arith))
-    (or-small _ _ 9 (unless-small (isWholeFile f) 3 9 (omega arith))
-    (or-small _ _ 9 (unless-small (hasHeader k f) 4 9 (omega arith))
-    (or-small _ _ 9 (unless-small z 5 9 (omega arith))
-    (or-small _ _ 9 (unless-small (hasBody k f) 6 9 (omega arith)) (unless-small (countAgrees f) 7 9 (omega arith))))))
+  read-through : {k : ℕ} → areNumbered qs ≡ true → firstNo qs ≡ 0 → m ≡ unless nine 9 → k ≡ length (bodyLines f) → CertificateTold m k n c →
+      CertificateAnswer (qs ++ ask 9 nine ∷ []) f n c
+  read-through p e q l t =
+      record { says = t .0 ∙ q ∙ sym (first-go qs (ask 9 nine ∷ []) p e); counts = beside-same (t .0) (t .1) l }
 
 -- A PATH
-module _ {f : List ℕ} {number next count firsts : ℕ} (a : ShapeAnswer pathForm f true number next count firsts) where
-  pub path-shape : {arcs : List ℕ} {bound n : ℕ} → (number ≡ 0 → ⊥) → PathRead f arcs bound number n
-  path-shape n =
-      record {
-        says = λ g e. a .says ∙ sym (or-stop (shapeFault pathForm f true) _ (λ q. n (a .says ∙ q)));
-        small = rw (a .says) (shape-small pathForm f true);
-        held = λ z. absurd (n z);
-      }
+no-path : {f arcs : List ℕ} {bound m n c : ℕ} → m ≡ firstNo (pathSized f) → m ≢ 0 → CertificateTold m 0 n c → PathRead f arcs arcs bound n c
+no-path {f} {arcs} {bound} e h t =
+    record {
+      answer = refused-early (pathSized f) (all (λ (i : ℕ). ltb i bound) (pathArcs f)) e h t;
+      stores = no-numbers (pathSized f) (pathArcs f) arcs (λ q. h (e ∙ q));
+    }
+
+module _ {f : List ℕ} {number next count : ℕ} (a : ShapeAnswer pathForm f number next count) where
+  pub path-shape : {arcs : List ℕ} {bound n c : ℕ} → number ≢ 0 → CertificateTold number 0 n c → PathRead f arcs arcs bound n c
+  path-shape h t = no-path (sized-shape pathForm f true (leb (length (bodyLines f)) 255) (a .says) h) h t
 
   module _ (e : number ≡ 0) where
-    past7 : (g : Graph) →
-        pathFault g f ≡ orElse (unless (leb (length (bodyLines f)) 255) 8) (unless (all (λ (i : ℕ). ltb i (length (g .arcs))) (pathArcs f)) 9)
-    past7 g = or-go (shapeFault pathForm f true) _ (sym (a .says) ∙ e)
+    count-is : count ≡ length (bodyLines f)
+    count-is = a .counts ∙ answered-none (length (bodyLines f)) e
 
-    count-is : length (bodyLines f) ≡ count
-    count-is = sym (a .shaped e .counts)
+    path-eight : firstNo (pathSized f) ≡ unless (leb count 255) 8
+    path-eight = rw count-is (sized-eight pathForm f true (leb (length (bodyLines f)) 255) (sym (a .says) ∙ e))
 
-    pub path-many : {arcs : List ℕ} {bound n : ℕ} → 255 < count → PathRead f arcs bound 8 n
-    path-many k =
-        record {
-          says = λ g q. sym (past7 g ∙ rw (count-is, lt-leb _ _ k));
-          small = omega arith;
-          held = λ z. absurd (omega arith);
-        }
+    pub path-many : {arcs : List ℕ} {bound n c : ℕ} → 255 < count → CertificateTold 8 0 n c → PathRead f arcs arcs bound n c
+    path-many m t = no-path (sym (path-eight ∙ rw (lt-leb _ _ m))) (λ q. omega arith) t
+
+    path-shaped : Shaped pathForm f next count (length (pairsIn 0x22 (bodyLines f)))
+    path-shaped = answer-shaped 0x22 0x22 refl a e
 
     module _ (few : count ≤ 255) where
-      size : length (runAt 34 f next) ≡ count
-      size = only-size (a .shaped e) 34 refl refl (λ q. omega arith)
+      pub path-room : Storable f next × (length (runAt 0x22 f next) ≤ 255)
+      path-room = (body-storable path-shaped (omega arith), omega (arith, only-size path-shaped 0x22 refl refl (λ q. omega arith)))
 
-      pub path-room : Storable f next × (length (runAt 34 f next) ≤ 255)
-      path-room = (body-storable (a .shaped e) (omega arith), omega (arith, size))
+      module _ {xs ys : List ℕ} {m turn : ℕ} (st : StoredNumbers 0x22 f next xs ys m turn) where
+        arcs-here : NumbersStored (pathArcs f) xs ys
+        arcs-here = subst (λ (is : List ℕ). NumbersStored is xs ys) (only-numbers path-shaped 0x22 refl refl (λ q. omega arith)) (st .numbers)
 
-      module _ {out arcs : List ℕ} {n turn : ℕ} (stored : StoredNumbers 34 f next out arcs n turn) where
-        arcs-are : take count arcs ≡ pathArcs f
-        arcs-are =
-            let c : n ≡ count = stored .passed .counts ∙ size in
-            ap (λ (k : ℕ). take k arcs) (sym c) ∙ stored .numbers ∙ only-numbers (a .shaped e) 34 refl refl (λ q. omega arith)
+        arcs-back : (count ≤ length ys) × (take count ys ≡ pathArcs f)
+        arcs-back = back-numbers (pathArcs f) (count-is ∙ sym (numbers-length (bodyLines f))) arcs-here
 
-        past8 : (g : Graph) → pathFault g f ≡ unless (all (λ (i : ℕ). ltb i (length (g .arcs))) (pathArcs f)) 9
-        past8 g = past7 g ∙ rw (count-is, le-leb _ _ few)
+        pub path-holds : count ≤ length ys
+        path-holds = arcs-back .0
 
-        pub path-arc : (bound : ℕ) {m : ℕ} → all (λ (i : ℕ). ltb i bound) (take count arcs) ≡ false → PathRead f arcs bound 9 m
-        path-arc bound q =
+        pub path-read : (bound : ℕ) {k n c : ℕ} → k ≡ unless (all (λ (i : ℕ). ltb i bound) (take count ys)) 9 → CertificateTold k count n c →
+            PathRead f xs ys bound n c
+        path-read bound q t =
+            let none : firstNo (pathSized f) ≡ 0 = path-eight ∙ rw (le-leb _ _ few) in
             record {
-              says = λ g b. sym (past8 g ∙ rw (b, ← arcs-are, q));
-              small = omega arith;
-              held = λ z. absurd (omega arith);
+              answer = read-through (pathSized f) (all (λ (i : ℕ). ltb i bound) (pathArcs f)) refl none (rw (arcs-back .1) at q) count-is t;
+              stores = all-numbers (pathSized f) (pathArcs f) none arcs-here;
             }
 
-        pub path-none : (bound : ℕ) → 255 ≤ length arcs → all (λ (i : ℕ). ltb i bound) (take count arcs) ≡ true → PathRead f arcs bound 0 count
-        path-none bound l q =
-            record {
-              says = λ g b. sym (past8 g ∙ rw (b, ← arcs-are, q));
-              small = omega arith;
-              held =
-                  λ z.
-                  record {
-                    room = omega arith;
-                    arcsAre = arcs-are;
-                    below = λ k h. ltb-true _ _ (all-getD (λ (i : ℕ). ltb i bound) (take count arcs) 0 k q h);
-                  };
-            }
+module _ {f xs ys : List ℕ} {bound n c : ℕ} (r : PathRead f xs ys bound n c) where
+  pub path-says : (g : Graph) → length (g .arcs) ≡ bound → n ≡ pathFault g f
+  path-says g e = r .answer .says ∙ ap (λ (b : ℕ). firstNo (pathQuestions b f)) (sym e) ∙ sym (path-asked g f)
 
--- A BARRIER
-module _ {f : List ℕ} {number next count firsts : ℕ} (a : ShapeAnswer barrierForm f true number next count firsts) where
-  pub barrier-shape : {classes : List ℕ} {bound n : ℕ} → (number ≡ 0 → ⊥) → BarrierRead f classes bound number n
-  barrier-shape n =
+  pub path-small : n ≤ 9
+  path-small = leb-true _ _ (rw (r .answer .says) (refusal-is (λ (k : ℕ). leb k 9) (pathQuestions bound f) refl refl))
+
+  pub path-held : n ≡ 0 → PathHeld f ys bound c
+  path-held e =
+      let none = sym (r .answer .says) ∙ e in
+      let nine = accepted 9 (pathQuestions bound f) refl none in
+      let p =
+      subst (λ (is : List ℕ). NumbersStored is xs ys)
+      (stored-all (pathSized f) (pathArcs f) (first-none (pathSized f) (ask 9 (all (λ (i : ℕ). ltb i bound) (pathArcs f)) ∷ []) refl none .0)) (r .stores) in
+      let b = back-numbers (pathArcs f) (r .answer .counts ∙ answered-none (length (bodyLines f)) e ∙ sym (numbers-length (bodyLines f))) p in
       record {
-        says = λ g e. a .says ∙ sym (or-stop (shapeFault barrierForm f true) _ (λ q. n (a .says ∙ q)));
-        small = rw (a .says) (shape-small barrierForm f true);
-        held = λ z. absurd (n z);
+        room = b .0;
+        arcsAre = b .1;
+        below = rw (b .1) (λ k h. ltb-true _ _ (all-getD (λ (i : ℕ). ltb i bound) (pathArcs f) 0 k nine h));
       }
 
+-- A BARRIER
+no-barrier : {f xs ys : List ℕ} {bound m n c : ℕ} → m ≡ firstNo (barrierSized bound f) → m ≢ 0 → CertificateTold m 0 n c →
+    BarrierRead f xs ys xs ys bound n c
+no-barrier {f} {xs} {ys} {bound} e h t =
+    record {
+      answer = refused-early (barrierSized bound f) (namesInOrder 0 (pairsIn 0x32 (bodyLines f))) e h t;
+      stores = no-pairs (barrierSized bound f) (pairsIn 0x32 (bodyLines f)) xs ys (λ q. h (e ∙ q));
+    }
+
+module _ {f : List ℕ} {number next count : ℕ} (a : ShapeAnswer barrierForm f number next count) (bound : ℕ) where
+  pub barrier-shape : {xs ys : List ℕ} {n c : ℕ} → number ≢ 0 → CertificateTold number 0 n c → BarrierRead f xs ys xs ys bound n c
+  barrier-shape h t = no-barrier (sized-shape barrierForm f true (eqb (length (bodyLines f)) bound) (a .says) h) h t
+
   module _ (e : number ≡ 0) where
-    barrier7 : (g : Graph) →
-        barrierFault g f ≡ orElse (unless (eqb (length (bodyLines f)) (nodes g)) 8) (unless (namesInOrder 0 (pairsIn 50 (bodyLines f))) 9)
-    barrier7 g = or-go (shapeFault barrierForm f true) _ (sym (a .says) ∙ e)
+    lines-are : count ≡ length (bodyLines f)
+    lines-are = a .counts ∙ answered-none (length (bodyLines f)) e
 
-    lines-are : length (bodyLines f) ≡ count
-    lines-are = sym (a .shaped e .counts)
+    barrier-eight : firstNo (barrierSized bound f) ≡ unless (eqb count bound) 8
+    barrier-eight = rw lines-are (sized-eight barrierForm f true (eqb (length (bodyLines f)) bound) (sym (a .says) ∙ e))
 
-    pub barrier-size : {classes : List ℕ} {bound n : ℕ} → (count ≡ bound → ⊥) → BarrierRead f classes bound 8 n
-    barrier-size n =
-        record {
-          says = λ g q. sym (barrier7 g ∙ rw (lines-are, q, ne-eqb _ _ n));
-          small = omega arith;
-          held = λ z. absurd (omega arith);
-        }
+    pub barrier-size : {xs ys : List ℕ} {n c : ℕ} → count ≢ bound → CertificateTold 8 0 n c → BarrierRead f xs ys xs ys bound n c
+    barrier-size d t = no-barrier (sym (barrier-eight ∙ rw (ne-eqb _ _ d))) (λ q. omega arith) t
 
-    module _ {bound : ℕ} (same : count ≡ bound) {xs ys : List ℕ} (r : Holds bound xs ys) where
-      run-size : length (runAt 50 f next) ≡ count
-      run-size = only-size (a .shaped e) 50 refl refl (λ q. omega arith)
+    barrier-shaped : Shaped barrierForm f next count (length (pairsIn 0x32 (bodyLines f)))
+    barrier-shaped = answer-shaped 0x32 0x32 refl a e
 
-      pub barrier-room : Storable f next × (length (runAt 50 f next) ≤ length xs) × (length (runAt 50 f next) ≤ length ys)
-      barrier-room =
-          (body-storable (a .shaped e) (omega arith), omega (arith, run-size, r .first), omega (arith, run-size, r .second))
+    module _ (same : count ≡ bound) where
+      pub barrier-room : {xs ys : List ℕ} → Holds bound xs ys → Storable f next × (length (runAt 0x32 f next) ≤ length xs) × (length (runAt 0x32 f next) ≤ length ys)
+      barrier-room r =
+          let n = only-size barrier-shaped 0x32 refl refl (λ q. omega arith) in
+          (body-storable barrier-shaped (omega arith), omega (arith, n, r), omega (arith, n, r))
 
-      module _ {us vs : List ℕ} {n turn : ℕ} (stored : StoredPairs 50 f next xs ys us vs n turn) (l : length us ≡ length xs) (m : length vs ≡ length ys) where
-        barrier-holds : Holds count us vs
-        barrier-holds = record { first = omega (arith, r .first); second = omega (arith, r .second) }
+      module _ {xs ys us vs : List ℕ} {m turn : ℕ} (st : StoredPairs 0x32 f next xs ys us vs m turn) where
+        lines-here : (m ≡ length (pairsIn 0x32 (bodyLines f))) × PairsStored (pairsIn 0x32 (bodyLines f)) xs ys us vs
+        lines-here = stored-as (pairsIn 0x32 (bodyLines f)) st (only-pairs barrier-shaped 0x32 refl refl (λ q. omega arith))
 
-        pairs-are : pairsOf count us vs ≡ pairsIn 50 (bodyLines f)
-        pairs-are =
-            let c : n ≡ count = stored .passed .counts ∙ run-size in
-            ap (λ (k : ℕ). pairsOf k us vs) (sym c) ∙ stored .pairs ∙ only-pairs (a .shaped e) 50 refl refl (λ q. omega arith)
+        pairs-counted : count ≡ length (pairsIn 0x32 (bodyLines f))
+        pairs-counted = sym (only-count barrier-shaped 0x32 refl refl (λ q. omega arith))
 
-        barrier8 : (g : Graph) → nodes g ≡ bound → barrierFault g f ≡ unless (namesInOrder 0 (pairsIn 50 (bodyLines f))) 9
-        barrier8 g b = barrier7 g ∙ rw (lines-are, b, eq-eqb _ _ same)
+        pub barrier-holds : Holds count us vs
+        barrier-holds = back-holds (pairsIn 0x32 (bodyLines f)) pairs-counted (lines-here .1)
 
-        pub barrier-order : {k : ℕ} → namesInOrder 0 (pairsOf count us vs) ≡ false → BarrierRead f vs bound 9 k
-        barrier-order q =
+        pub barrier-read : {k n c : ℕ} → k ≡ unless (namesInOrder 0 (pairsOf count us vs)) 9 → CertificateTold k count n c → BarrierRead f xs ys us vs bound n c
+        barrier-read q t =
+            let none : firstNo (barrierSized bound f) ≡ 0 = barrier-eight ∙ rw (eq-eqb _ _ same) in
             record {
-              says = λ g b. sym (barrier8 g b ∙ rw (← pairs-are, q));
-              small = omega arith;
-              held = λ z. absurd (omega arith);
+              answer =
+                  read-through (barrierSized bound f) (namesInOrder 0 (pairsIn 0x32 (bodyLines f))) refl none
+                  (rw (back-pairs (pairsIn 0x32 (bodyLines f)) pairs-counted (lines-here .1)) at q) lines-are t;
+              stores = all-pairs (barrierSized bound f) (pairsIn 0x32 (bodyLines f)) none (lines-here .1);
             }
 
-        pub barrier-none : namesInOrder 0 (pairsOf count us vs) ≡ true → BarrierRead f vs bound 0 count
-        barrier-none q =
-            record {
-              says = λ g b. sym (barrier8 g b ∙ rw (← pairs-are, q));
-              small = omega arith;
-              held = λ z.
-                  record {
-                    room = barrier-holds .second;
-                    classesAre = rw (← pairs-are) (sym (seconds-are barrier-holds));
-                  };
-            }
+module _ {f xs ys us vs : List ℕ} {bound n c : ℕ} (r : BarrierRead f xs ys us vs bound n c) where
+  pub barrier-says : (g : Graph) → nodes g ≡ bound → n ≡ barrierFault g f
+  barrier-says g e = r .answer .says ∙ ap (λ (b : ℕ). firstNo (barrierQuestions b f)) (sym e) ∙ sym (barrier-asked g f)
+
+  pub barrier-small : n ≤ 9
+  barrier-small = leb-true _ _ (rw (r .answer .says) (refusal-is (λ (k : ℕ). leb k 9) (barrierQuestions bound f) refl refl))
+
+  pub barrier-held : n ≡ 0 → BarrierHeld f vs c
+  barrier-held e =
+      let lines = pairsIn 0x32 (bodyLines f) in
+      let none = first-none (barrierSized bound f) (ask 9 (namesInOrder 0 lines) ∷ []) refl (sym (r .answer .says) ∙ e) .0 in
+      let shape = shape-asked barrierForm f true ∙ first-none (shapeQuestions barrierForm f true) (ask 8 (eqb (length (bodyLines f)) bound) ∷ []) refl none .0 in
+      let s : Shaped barrierForm f (lineAfter f 0) (length (bodyLines f)) (length lines) =
+      answer-shaped 0x32 0x32 refl (record { says = sym shape; second-line = refl; counts = refl }) refl in
+      let k = r .answer .counts ∙ answered-none (length (bodyLines f)) e ∙ sym (only-count s 0x32 refl refl (λ q. omega arith)) in
+      let p = subst (λ (zs : List Pair). PairsStored zs xs ys us vs) (stored-all (barrierSized bound f) lines none) (r .stores) in
+      let h = back-holds lines k p in
+      record { room = h .second; classesAre = rw (← back-pairs lines k p) (sym (seconds-are h)) }

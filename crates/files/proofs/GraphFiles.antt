@@ -1,112 +1,156 @@
 -- The questions of a graph file, one after the other.
---   header-none, header-many, header-source, header-yes    question 5, by the two numbers of the header
---   graph-shape                                            questions 2 to 7 refuse
---   graph-odd, graph-many                                  question 8 refuses
---   graph-room                                             its arcs can be stored
---   graph-read                                             and what is answered once they are
-use mathlib.Core.Path.{_≡_, refl, ap, sym, _∙_}
-use mathlib.Core.Bool.{Bool, false, _&&_, and-false}
-use mathlib.Core.List.{List}
-use Prim.Native.Nat.{ℕ, _+_, _*_, _%_, _≤_, _<_}
+--   graph-header, graph-five       questions 2 to 4 refuse, question 5 refuses
+--   header-long, header-next       the header's numbers can be read, and the body
+--   GraphBody, graph-body          a graph past questions 2 to 7; questions 6 and 7 refuse
+--   body-read                      what was read is such a graph
+--   graph-odd, graph-many          question 8 refuses
+--   graph-room, graph-holds        its arcs can be stored, and asked
+--   no-graph, graph-read           what is answered: a refusal before the arcs are stored, and the rest
+--   graph-held                     where nothing is refused, the slices hold the file's graph
+use mathlib.Core.Path.{_≡_, refl, ap, subst, sym, _∙_}
+use mathlib.Core.Logic.{_≢_}
+use mathlib.Core.Bool.{true, false, and-false}
+use mathlib.Core.List.{List, [], _∷_}
+use Prim.Native.Nat.{ℕ, _*_, _%_, _≤_, _<_}
 use native.Mathlib.Omega.{arith}
-use lib.Dec.{eqb, ltb, leb}
-use borrow.Author.Tests.{eq-eqb, ne-eqb, le-leb, lt-leb}
-use lib.ListN.{length}
-use Rattle.counting.specs.Tests.{all}
-use Rattle.counting.specs.Pairs.{pairsOf}
-use Rattle.frames.specs.Frames.{orElse, unless, hexAt, firstLine, shapeFault, graphForm}
+use lib.Dec.{eqb}
+use borrow.Author.Tests.{ne-eqb, eq-eqb, le-leb, lt-leb}
+use lib.ListN.{length, drop}
+use Rattle.counting.specs.Pairs.{Pair, pairsOf}
+use Rattle.frames.specs.Frames.{shapeFault, graphForm}
+use Rattle.frames.specs.Questions.{ask, firstNo}
 use Rattle.frames.specs.Numbers.{NumberAt}
-use Rattle.frames.specs.Shape.{headerFault, ShapeAnswer}
-use Rattle.frames.specs.Stores.{runAt, Storable, StoredPairs}
-use Rattle.frames.proofs.Questions.{or-stop, or-go}
-use Rattle.frames.proofs.HeaderFrames.{header-line, first-number}
-use Rattle.frames.proofs.ShapeFaults.{fits-free}
-use Rattle.frames.proofs.StoredBodies.{body-storable, only-size, only-pairs}
-use Rattle.skew.specs.Graph.{matesFit}
+use Rattle.frames.specs.Shape.{HeaderAnswer, BodyAnswer, Shaped}
+use Rattle.frames.specs.Stores.{runAt, Storable, PairsStored, StoredPairs}
+use Rattle.frames.proofs.Questions.{first-stop, first-go, first-none, answered-none, beside-same, beside-refused}
+use Rattle.frames.proofs.HeaderFrames.{first-number, second-line}
+use Rattle.frames.proofs.ShapeFaults.{shape-header, shape-five, shape-body, sized-shape, sized-eight, read-shaped}
+use Rattle.frames.proofs.StoredBodies.{body-storable, only-size, only-pairs, only-count}
+use Rattle.frames.proofs.Stores.{stored-as}
+use Rattle.skew.specs.Graph.{nodes}
 use Rattle.files.specs.Tables.{Holds}
-use Rattle.files.specs.GraphFile.{headerFits, graphIn, arcNamed, arcsFault, graphFault}
-use Rattle.files.specs.Readers.{GraphHeld, GraphRead}
-use Rattle.files.proofs.Bodies.{only-count}
+use Rattle.files.specs.GraphFile.{headerFits, graphIn, graphFault, numbersFit, arcsFit, graphSized, arcsQuestions}
+use Rattle.files.specs.Readers.{GraphTold, GraphHeld, GraphRead}
+use Rattle.files.proofs.Tables.{stored-all, all-pairs, no-pairs, back-holds, back-pairs}
+use Rattle.files.proofs.Asked.{graph-asked}
 
 -- THE HEADER
-module _ (f : List ℕ) (h : headerFault graphForm f ≡ 0) where
-  number-at : (i : ℕ) → i + 2 ≤ 6 → hexAt i 2 (firstLine f) ≡ hexAt i 2 f
-  number-at i k = let l = header-line graphForm f h in first-number f 6 (l .0) (l .1) i 2 k
+pub record GraphBody (f : List ℕ) (next pairs source arcs firsts : ℕ) : Type 0 where
+  pub shaped : Shaped graphForm f next arcs firsts
+  pub none : shapeFault graphForm f (headerFits f) ≡ 0
+  pub pairs-are : pairs ≡ graphIn f .pairs
+  pub source-is : source ≡ graphIn f .source
 
-  module _ {p s : ℕ} (x : NumberAt f 2 2 p) (y : NumberAt f 4 2 s) where
-    by-numbers : headerFits f ≡ (leb 1 p && leb p 128 && ltb s (2 * p))
-    by-numbers = rw (number-at 2 (omega arith), number-at 4 (omega arith), ← (x .is), ← (y .is))
+module _ {f : List ℕ} {n next : ℕ} (h : HeaderAnswer graphForm f n next) where
+  sized : {m : ℕ} → m ≡ shapeFault graphForm f (headerFits f) → m ≢ 0 → m ≡ firstNo (graphSized f)
+  sized = sized-shape graphForm f (headerFits f) (arcsFit (length (graphIn f .arcs)))
 
-    pub header-none : p ≡ 0 → false ≡ headerFits f
-    header-none e = sym (by-numbers ∙ rw (lt-leb 1 p (omega arith)))
+  pub graph-header : n ≢ 0 → n ≡ firstNo (graphSized f)
+  graph-header d = sized (shape-header h (headerFits f) d) d
 
-    pub header-many : 128 < p → false ≡ headerFits f
-    header-many k = sym (by-numbers ∙ rw (lt-leb p 128 k, and-false (leb 1 p)))
+  module _ (z : n ≡ 0) where
+    pub header-long : 6 ≤ length f
+    header-long = let l = second-line h z in omega (arith, l .past, l .high)
 
-    pub header-yes : (p ≡ 0 → ⊥) → p ≤ 128 → ltb s (2 * p) ≡ headerFits f
-    header-yes n k = sym (by-numbers ∙ rw (le-leb 1 p (omega arith), le-leb p 128 k))
+    pub header-next : next ≤ length f
+    header-next = second-line h z .high
 
-  pub header-long : 6 ≤ length f
-  header-long = let l = header-line graphForm f h in omega (arith, l .1 .past, l .1 .high)
+    module _ {p s : ℕ} (x : NumberAt f 2 2 p) (y : NumberAt f 4 2 s) where
+      pairs-read : p ≡ graphIn f .pairs
+      pairs-read = x .is ∙ sym (first-number f 6 next (second-line h z) 2 2 (omega arith))
 
--- THE WHOLE FILE
-module _ {f : List ℕ} {z : Bool} {number next count firsts : ℕ} (a : ShapeAnswer graphForm f z number next count firsts)
-    (fits : headerFault graphForm f ≡ 0 → z ≡ headerFits f) where
-  shape-is : number ≡ shapeFault graphForm f (headerFits f)
-  shape-is = a .says ∙ fits-free graphForm f z (headerFits f) fits
+      source-read : s ≡ graphIn f .source
+      source-read = y .is ∙ sym (first-number f 6 next (second-line h z) 4 2 (omega arith))
 
-  pub graph-shape : (number ≡ 0 → ⊥) → number ≡ graphFault f
-  graph-shape n = shape-is ∙ sym (or-stop (shapeFault graphForm f (headerFits f)) _ (λ e. n (shape-is ∙ e)))
+      fits-are : headerFits f ≡ numbersFit p s
+      fits-are = rw (pairs-read, source-read)
 
-  module _ (e : number ≡ 0) where
-    past7 : graphFault f ≡ orElse (unless (eqb (length (graphIn f .arcs) % 2) 0 && leb (length (graphIn f .arcs)) 8192) 8) (orElse (unless (all (arcNamed (graphIn f)) (graphIn f .arcs)) 9) (unless (matesFit (graphIn f .arcs)) 10))
-    past7 = or-go (shapeFault graphForm f (headerFits f)) _ (sym shape-is ∙ e)
+      pub graph-five : numbersFit p s ≡ false → 5 ≡ firstNo (graphSized f)
+      graph-five e = sized (shape-five h (headerFits f) z (fits-are ∙ e)) (λ q. omega arith)
 
-    count-is : length (graphIn f .arcs) ≡ count
-    count-is = only-count (a .shaped e) 2 refl refl
+      module _ (e : numbersFit p s ≡ true) {m count firsts : ℕ} (b : BodyAnswer graphForm (drop next f) m count firsts) where
+        body-is : m ≡ shapeFault graphForm f (headerFits f)
+        body-is = shape-body h (headerFits f) z (fits-are ∙ e) b
 
-    pub graph-long : 6 ≤ length f
-    graph-long = let l = a .shaped e .header in omega (arith, l .past, l .high)
+        pub graph-body : m ≢ 0 → m ≡ firstNo (graphSized f)
+        graph-body d = sized body-is d
 
-    pub graph-odd : (count % 2 ≡ 0 → ⊥) → 8 ≡ graphFault f
-    graph-odd n = sym (past7 ∙ rw (count-is, ne-eqb _ _ n))
+        pub body-read : m ≡ 0 → GraphBody f next p s count firsts
+        body-read o =
+            record {
+              shaped = read-shaped 0x02 0x02 refl h z b o;
+              none = sym body-is ∙ o;
+              pairs-are = pairs-read;
+              source-is = source-read;
+            }
 
-    pub graph-many : 8192 < count → 8 ≡ graphFault f
-    graph-many k = sym (past7 ∙ rw (count-is, lt-leb _ _ k, and-false (eqb (count % 2) 0)))
+-- THE ANSWERS
+pub no-graph : {f ts hs : List ℕ} {k number pairs source arcs : ℕ} → k ≡ firstNo (graphSized f) → k ≢ 0 →
+    GraphTold k 0 0 0 number pairs source arcs → GraphRead f ts hs ts hs number pairs source arcs
+no-graph {f} {ts} {hs} e h t =
+    let d : firstNo (graphSized f) ≢ 0 = λ q. h (e ∙ q) in
+    record {
+      says = t .0 ∙ e ∙ sym (graph-asked f ∙ first-stop (graphSized f) (arcsQuestions (nodes (graphIn f)) (graphIn f .arcs)) d);
+      pairs-are = beside-refused 0 (graphIn f .pairs) h (t .0) (t .1);
+      source-is = beside-refused 0 (graphIn f .source) h (t .0) (t .2);
+      arcs-are = beside-refused 0 (length (graphIn f .arcs)) h (t .0) (t .3);
+      stores = no-pairs (graphSized f) (graphIn f .arcs) ts hs d;
+    }
 
-    module _ (even : count % 2 ≡ 0) (few : count ≤ 8192) {ts hs : List ℕ} (r : Holds 8192 ts hs) where
-      pub graph-room : Storable f next × (length (runAt 2 f next) ≤ length ts) × (length (runAt 2 f next) ≤ length hs)
-      graph-room =
-          let n = only-size (a .shaped e) 2 refl refl (λ q. omega arith) in
-          (body-storable (a .shaped e) (omega arith), omega (arith, n, r), omega (arith, n, r))
+module _ {f : List ℕ} {next p s count firsts : ℕ} (g : GraphBody f next p s count firsts) where
+  count-is : length (graphIn f .arcs) ≡ count
+  count-is = only-count (g .shaped) 0x02 refl refl (λ q. omega arith)
 
-      module _ {us vs : List ℕ} {n turn : ℕ} (stored : StoredPairs 2 f next ts hs us vs n turn) (l : length us ≡ length ts) (m : length vs ≡ length hs) where
-        pub graph-holds : Holds count us vs
-        graph-holds = record { first = omega (arith, r); second = omega (arith, r) }
+  eight : firstNo (graphSized f) ≡ firstNo (ask 8 (arcsFit (length (graphIn f .arcs))) ∷ [])
+  eight = sized-eight graphForm f (headerFits f) (arcsFit (length (graphIn f .arcs))) (g .none)
 
-        arcs-are : pairsOf count us vs ≡ graphIn f .arcs
-        arcs-are =
-            let c : n ≡ count = stored .passed .counts ∙ only-size (a .shaped e) 2 refl refl (λ q. omega arith) in
-            ap (λ (k : ℕ). pairsOf k us vs) (sym c) ∙ stored .pairs ∙ only-pairs (a .shaped e) 2 refl refl (λ q. omega arith)
+  pub graph-odd : count % 2 ≢ 0 → 8 ≡ firstNo (graphSized f)
+  graph-odd d = sym (eight ∙ rw (count-is, ne-eqb _ _ d))
 
-        module _ {p s : ℕ} (x : NumberAt f 2 2 p) (y : NumberAt f 4 2 s) where
-          graph-held : GraphHeld f us vs p s count
-          graph-held =
-              let h = a .shaped e .header in
-              record {
-                pairsAre = x .is ∙ sym (first-number f 6 next h 2 2 (omega arith));
-                sourceIs = y .is ∙ sym (first-number f 6 next h 4 2 (omega arith));
-                room = graph-holds;
-                arcsAre = arcs-are;
-              }
+  pub graph-many : 8192 < count → 8 ≡ firstNo (graphSized f)
+  graph-many k = sym (eight ∙ rw (count-is, lt-leb _ _ k, and-false (eqb (count % 2) 0)))
 
-          pub graph-read : {k : ℕ} → k ≡ arcsFault (2 * p) (pairsOf count us vs) → GraphRead f us vs k p s count
-          graph-read q =
-              let g = graph-held in
-              record {
-                says = q ∙ sym (past7 ∙ rw (count-is, eq-eqb _ _ even, le-leb _ _ few, ← (g .pairsAre), ← arcs-are));
-                held = λ o. g;
-              }
+  pub graph-room : {ts hs : List ℕ} → count ≤ 8192 → Holds 8192 ts hs →
+      Storable f next × (length (runAt 0x02 f next) ≤ length ts) × (length (runAt 0x02 f next) ≤ length hs)
+  graph-room few r =
+      let n = only-size (g .shaped) 0x02 refl refl (λ q. omega arith) in
+      (body-storable (g .shaped) (omega arith), omega (arith, n, r), omega (arith, n, r))
 
-pub no-graph-read : {f ts hs : List ℕ} {m k p s n : ℕ} → m ≡ k → k ≡ graphFault f → (k ≡ 0 → ⊥) → GraphRead f ts hs m p s n
-no-graph-read e h n = record { says = e ∙ h; held = λ z. absurd (n (sym e ∙ z)) }
+  module _ {ts hs us vs : List ℕ} {n turn : ℕ} (st : StoredPairs 0x02 f next ts hs us vs n turn) where
+    arcs-here : (n ≡ length (graphIn f .arcs)) × PairsStored (graphIn f .arcs) ts hs us vs
+    arcs-here = stored-as (graphIn f .arcs) st (only-pairs (g .shaped) 0x02 refl refl (λ q. omega arith))
+
+    pub graph-holds : Holds count us vs
+    graph-holds = back-holds (graphIn f .arcs) (sym count-is) (arcs-here .1)
+
+    arcs-back : pairsOf count us vs ≡ graphIn f .arcs
+    arcs-back = back-pairs (graphIn f .arcs) (sym count-is) (arcs-here .1)
+
+    pub graph-read : {k number pairs source arcs : ℕ} → count % 2 ≡ 0 → count ≤ 8192 → k ≡ firstNo (arcsQuestions (2 * p) (pairsOf count us vs)) →
+        GraphTold k p s count number pairs source arcs → GraphRead f ts hs us vs number pairs source arcs
+    graph-read even few q t =
+        let none : firstNo (graphSized f) ≡ 0 = eight ∙ rw (count-is, eq-eqb _ _ even, le-leb _ _ few) in
+        let later = ap (λ (xs : List Pair). firstNo (arcsQuestions (2 * p) xs)) arcs-back ∙ ap (λ (i : ℕ). firstNo (arcsQuestions (2 * i) (graphIn f .arcs))) (g .pairs-are) in
+        record {
+          says =
+              t .0 ∙ q ∙ later ∙
+              sym (graph-asked f ∙ first-go (graphSized f) (arcsQuestions (nodes (graphIn f)) (graphIn f .arcs)) refl none);
+          pairs-are = beside-same (t .0) (t .1) (g .pairs-are);
+          source-is = beside-same (t .0) (t .2) (g .source-is);
+          arcs-are = beside-same (t .0) (t .3) (sym count-is);
+          stores = all-pairs (graphSized f) (graphIn f .arcs) none (arcs-here .1);
+        }
+
+-- WHERE NOTHING IS REFUSED
+pub graph-held : {f ts hs us vs : List ℕ} {n p s a : ℕ} → GraphRead f ts hs us vs n p s a → n ≡ 0 → GraphHeld f us vs p s a
+graph-held {f} {ts} {hs} {us} {vs} r e =
+    let fault : graphFault f ≡ 0 = sym (r .says) ∙ e in
+    let none = first-none (graphSized f) (arcsQuestions (nodes (graphIn f)) (graphIn f .arcs)) refl (sym (graph-asked f) ∙ fault) .0 in
+    let p = subst (λ (xs : List Pair). PairsStored xs ts hs us vs) (stored-all (graphSized f) (graphIn f .arcs) none) (r .stores) in
+    let c = r .arcs-are ∙ answered-none _ e in
+    record {
+      pairsAre = r .pairs-are ∙ answered-none _ e;
+      sourceIs = r .source-is ∙ answered-none _ e;
+      room = back-holds (graphIn f .arcs) c p;
+      arcsAre = back-pairs (graphIn f .arcs) c p;
+    }

@@ -4,9 +4,9 @@
 --   PairScans        questions 9 to 13 put to such pairs from the front
 --   SharedCameras    question 14, with a table of marks
 --   AnswerLines      answers written line by line
+--   Asked            document 03's chains of questions, as lists
 --   AcceptedFiles    what the questions settle of a file
 --   SheetBytes       what a standing sheet's bytes tell
---   Bodies           body lines counted
 --   GraphFiles       the questions of a graph file
 --   StockFiles       the questions of a stock file
 --   CertificateFiles the questions of a certificate
@@ -16,9 +16,9 @@ pub mod Tables
 pub mod PairScans
 pub mod SharedCameras
 pub mod AnswerLines
+pub mod Asked
 pub mod AcceptedFiles
 pub mod SheetBytes
-pub mod Bodies
 pub mod GraphFiles
 pub mod StockFiles
 pub mod CertificateFiles

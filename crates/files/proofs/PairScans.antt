@@ -13,11 +13,10 @@ use lib.Dec.{eqb, ltb}
 use borrow.Author.Tests.{eq-eqb, ne-eqb, lt-ltb, le-ltb, le-leb, lt-leb}
 use lib.ListN.{getD, drop}
 use Rattle.counting.specs.Tests.{all}
-use Rattle.counting.specs.Pairs.{Pair, pair, pairsOf}
+use Rattle.counting.specs.Pairs.{Pair, pair, pairsOf, pairNamed}
 use Rattle.skew.specs.Graph.{mate, matesFit}
 use Rattle.matching.specs.Stock.{samePair, hasPair, pairBefore, pairsRise}
 use Rattle.files.specs.Tables.{Holds}
-use Rattle.matching.specs.Promise.{pairNamed}
 use Rattle.files.specs.CertificateFile.{namesInOrder}
 use Rattle.files.proofs.Tables.{pairs-next, pairs-none}
 

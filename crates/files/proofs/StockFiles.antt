@@ -1,113 +1,174 @@
 -- The questions of a stock file, one after the other.
---   header-number, header-long    question 5, by the number of the header
---   pairs-nine, pairs-ten         questions 9, of fits and of lit pairs
---   stock-shape, stock-many       questions 2 to 7 refuse, question 8 refuses
---   fits-room, lit-room           its fits and its lit pairs can be stored
---   stock-read                    and what is answered once they are
-use mathlib.Core.Path.{_≡_, refl, sym, _∙_}
-use mathlib.Core.Bool.{Bool}
-use mathlib.Core.List.{List}
+--   stock-header, stock-five         questions 2 to 4 refuse, question 5 refuses
+--   header-long, header-next         the header's number can be read, and the body
+--   StockBody, stock-body            a stock past questions 2 to 7; questions 6 and 7 refuse
+--   body-read                        what was read is such a stock
+--   stock-many                       question 8 refuses
+--   fits-room, lit-room, stock-holds its fits and its lit pairs can be stored, and asked
+--   no-stock, stock-read             what is answered: a refusal before the pairs are stored, and the rest
+--   stock-held                       where nothing is refused, the slices hold the file's stock
+use mathlib.Core.Path.{_≡_, refl, subst, sym, _∙_}
+use mathlib.Core.Logic.{_≢_}
+use mathlib.Core.List.{List, [], _∷_}
 use Prim.Native.Nat.{ℕ, _≤_, _<_}
 use native.Mathlib.Omega.{arith}
 use lib.Dec.{leb}
 use borrow.Author.Tests.{le-leb, lt-leb}
-use lib.ListN.{length}
-use Rattle.counting.specs.Pairs.{pairsOf}
-use Rattle.frames.specs.Frames.{orElse, unless, shapeFault, stockForm}
+use lib.ListN.{length, drop}
+use Rattle.counting.specs.Pairs.{Pair, pairsOf}
+use Rattle.frames.specs.Frames.{shapeFault, stockForm}
+use Rattle.frames.specs.Questions.{ask, firstNo}
 use Rattle.frames.specs.Numbers.{NumberAt}
-use Rattle.frames.specs.Shape.{headerFault, ShapeAnswer}
-use Rattle.frames.specs.Stores.{runAt, Storable, StoredPairs}
-use Rattle.frames.proofs.Questions.{or-stop, or-go}
-use Rattle.frames.proofs.HeaderFrames.{header-line, first-number}
-use Rattle.frames.proofs.ShapeFaults.{fits-free}
-use Rattle.frames.proofs.Stores.{storable-next}
+use Rattle.frames.specs.Shape.{HeaderAnswer, BodyAnswer, Shaped}
+use Rattle.frames.specs.Stores.{runAt, Storable, PairsStored, StoredPairs}
+use Rattle.frames.proofs.Questions.{first-stop, first-go, first-none, answered-none, beside-same, beside-refused}
+use Rattle.frames.proofs.HeaderFrames.{first-number, second-line}
+use Rattle.frames.proofs.ShapeFaults.{shape-header, shape-five, shape-body, sized-shape, sized-eight, read-shaped}
+use Rattle.frames.proofs.Stores.{stored-as, storable-next}
 use Rattle.frames.proofs.StoredBodies.{body-storable, body-few, first-size, first-pairs, second-size, second-pairs}
 use Rattle.files.specs.Tables.{Holds}
-use Rattle.files.specs.StockFile.{headerFits, stockIn, pairsFault, stockFault}
-use Rattle.files.specs.Readers.{StockHeld, StockRead}
+use Rattle.files.specs.StockFile.{headerFits, stockIn, stockFault, stockSized, pairsQuestions}
+use Rattle.files.specs.Readers.{StockTold, StockHeld, StockRead}
+use Rattle.files.proofs.Tables.{stored-all, all-pairs, no-pairs, back-holds, back-pairs}
+use Rattle.files.proofs.Asked.{stock-asked}
 
 -- THE HEADER
-module _ (f : List ℕ) (h : headerFault stockForm f ≡ 0) where
-  pub header-long : 4 ≤ length f
-  header-long = let l = header-line stockForm f h in omega (arith, l .1 .past, l .1 .high)
+pub record StockBody (f : List ℕ) (next cameras count firsts : ℕ) : Type 0 where
+  pub shaped : Shaped stockForm f next count firsts
+  pub none : shapeFault stockForm f (headerFits f) ≡ 0
+  pub cameras-are : cameras ≡ stockIn f .cameras
 
-  pub header-number : {n : ℕ} → NumberAt f 2 2 n → leb n 127 ≡ headerFits f
-  header-number x = let l = header-line stockForm f h in rw (first-number f 4 (l .0) (l .1) 2 2 (omega arith), ← (x .is))
+module _ {f : List ℕ} {n next : ℕ} (h : HeaderAnswer stockForm f n next) where
+  sized : {m : ℕ} → m ≡ shapeFault stockForm f (headerFits f) → m ≢ 0 → m ≡ firstNo (stockSized f)
+  sized = sized-shape stockForm f (headerFits f) (leb (length (stockIn f .fits)) 3900)
 
--- THE WHOLE FILE
-module _ {f : List ℕ} {z : Bool} {number next count firsts : ℕ} (a : ShapeAnswer stockForm f z number next count firsts)
-    (fits : headerFault stockForm f ≡ 0 → z ≡ headerFits f) where
-  shape-is : number ≡ shapeFault stockForm f (headerFits f)
-  shape-is = a .says ∙ fits-free stockForm f z (headerFits f) fits
+  pub stock-header : n ≢ 0 → n ≡ firstNo (stockSized f)
+  stock-header d = sized (shape-header h (headerFits f) d) d
 
-  pub stock-shape : (number ≡ 0 → ⊥) → number ≡ stockFault f
-  stock-shape n = shape-is ∙ sym (or-stop (shapeFault stockForm f (headerFits f)) _ (λ e. n (shape-is ∙ e)))
+  module _ (z : n ≡ 0) where
+    pub header-long : 4 ≤ length f
+    header-long = let l = second-line h z in omega (arith, l .past, l .high)
 
-  module _ (e : number ≡ 0) where
-    past7 : stockFault f ≡ orElse (unless (leb (length (stockIn f .fits)) 3900) 8) (pairsFault (stockIn f .cameras) (stockIn f .fits) (stockIn f .lit))
-    past7 = or-go (shapeFault stockForm f (headerFits f)) _ (sym shape-is ∙ e)
+    pub header-next : next ≤ length f
+    header-next = second-line h z .high
 
-    count-is : length (stockIn f .fits) ≡ firsts
-    count-is = sym (a .shaped e .firstCounts)
+    module _ {c : ℕ} (x : NumberAt f 2 2 c) where
+      cameras-read : c ≡ stockIn f .cameras
+      cameras-read = x .is ∙ sym (first-number f 4 next (second-line h z) 2 2 (omega arith))
 
-    pub stock-long : 4 ≤ length f
-    stock-long = let l = a .shaped e .header in omega (arith, l .past, l .high)
+      fits-are : headerFits f ≡ leb c 127
+      fits-are = rw cameras-read
 
-    pub stock-many : 3900 < firsts → 8 ≡ stockFault f
-    stock-many k = sym (past7 ∙ rw (count-is, lt-leb _ _ k))
+      pub stock-five : 127 < c → 5 ≡ firstNo (stockSized f)
+      stock-five k = sized (shape-five h (headerFits f) z (fits-are ∙ lt-leb _ _ k)) (λ q. omega arith)
 
-    module _ (few : firsts ≤ 3900) {us vs xs ys : List ℕ} (r : Holds 3900 us vs × Holds 8571 xs ys) where
-      fits-size : length (runAt 18 f next) ≡ firsts
-      fits-size = first-size (a .shaped e) 18 19 refl refl (λ q. omega arith) (λ q. omega arith) (λ q. omega arith)
+      module _ (k : c ≤ 127) {m count firsts : ℕ} (b : BodyAnswer stockForm (drop next f) m count firsts) where
+        body-is : m ≡ shapeFault stockForm f (headerFits f)
+        body-is = shape-body h (headerFits f) z (fits-are ∙ le-leb _ _ k) b
 
-      pub fits-room : Storable f next × (length (runAt 18 f next) ≤ length us) × (length (runAt 18 f next) ≤ length vs)
-      fits-room =
-          (body-storable (a .shaped e) (omega arith), omega (arith, fits-size, r .0 .first), omega (arith, fits-size, r .0 .second))
+        pub stock-body : m ≢ 0 → m ≡ firstNo (stockSized f)
+        stock-body d = sized body-is d
 
-      module _ {us' vs' : List ℕ} {n turn : ℕ} (one : StoredPairs 18 f next us vs us' vs' n turn) where
-        lit-size : length (runAt 19 f turn) ≤ 8571
-        lit-size =
-            let s = second-size (a .shaped e) 18 19 refl refl (λ q. omega arith) (λ q. omega arith) (λ q. omega arith) (one .passed) in
-            omega (arith, s, body-few (a .shaped e) (omega arith), a .shaped e .short)
+        pub body-read : m ≡ 0 → StockBody f next c count firsts
+        body-read o = record { shaped = read-shaped 0x12 0x13 refl h z b o; none = sym body-is ∙ o; cameras-are = cameras-read }
 
-        pub lit-room : Storable f turn × (length (runAt 19 f turn) ≤ length xs) × (length (runAt 19 f turn) ≤ length ys)
-        lit-room = (
-          storable-next (fits-room .0) (one .passed),
-          omega (arith, lit-size, r .1 .first),
-          omega (arith, lit-size, r .1 .second),
-        )
+-- THE ANSWERS
+pub no-stock : {f us vs xs ys : List ℕ} {k number cameras fits lit : ℕ} → k ≡ firstNo (stockSized f) → k ≢ 0 →
+    StockTold k 0 0 0 number cameras fits lit → StockRead f us vs xs ys us vs xs ys number cameras fits lit
+no-stock {f} {us} {vs} {xs} {ys} e h t =
+    let d : firstNo (stockSized f) ≢ 0 = λ q. h (e ∙ q) in
+    record {
+      says = t .0 ∙ e ∙ sym (stock-asked f ∙ first-stop (stockSized f) (pairsQuestions (stockIn f .cameras) (stockIn f .fits) (stockIn f .lit)) d);
+      cameras-are = beside-refused 0 (stockIn f .cameras) h (t .0) (t .1);
+      fits-are = beside-refused 0 (length (stockIn f .fits)) h (t .0) (t .2);
+      lit-are = beside-refused 0 (length (stockIn f .lit)) h (t .0) (t .3);
+      stores = no-pairs (stockSized f) (stockIn f .fits) us vs d;
+      stores-lit = no-pairs (stockSized f) (stockIn f .lit) xs ys d;
+    }
 
-        module _ {xs' ys' : List ℕ} {m end : ℕ} (two : StoredPairs 19 f turn xs ys xs' ys' m end) (lu : length us' ≡ length us)
-            (lv : length vs' ≡ length vs) (lx : length xs' ≡ length xs) (ly : length ys' ≡ length ys) where
-          pub stock-holds : Holds n us' vs' × Holds m xs' ys'
-          stock-holds =
-              let p = one .passed .counts in
-              let q = two .passed .counts in (
-                record { first = omega (arith, fits-size, r .0 .first); second = omega (arith, fits-size, r .0 .second) },
-                record { first = omega (arith, lit-size, r .1 .first); second = omega (arith, lit-size, r .1 .second) },
-              )
+module _ {f : List ℕ} {next c count firsts : ℕ} (g : StockBody f next c count firsts) where
+  count-is : length (stockIn f .fits) ≡ firsts
+  count-is = sym (g .shaped .firstCounts)
 
-          module _ {c : ℕ} (x : NumberAt f 2 2 c) where
-            stock-held : StockHeld f us' vs' xs' ys' c n m
-            stock-held =
-                let h = a .shaped e .header in
-                let b = stock-holds in
-                record {
-                  camerasAre = x .is ∙ sym (first-number f 4 next h 2 2 (omega arith));
-                  fitsRoom = b .0;
-                  fitsAre = one .pairs ∙ first-pairs (a .shaped e) 18 19 refl refl (λ q. omega arith) (λ q. omega arith) (λ q. omega arith);
-                  litRoom = b .1;
-                  litAre =
-                      two .pairs ∙ second-pairs (a .shaped e) 18 19 refl refl (λ q. omega arith) (λ q. omega arith) (λ q. omega arith) (one .passed);
-                }
+  eight : firstNo (stockSized f) ≡ firstNo (ask 8 (leb (length (stockIn f .fits)) 3900) ∷ [])
+  eight = sized-eight stockForm f (headerFits f) (leb (length (stockIn f .fits)) 3900) (g .none)
 
-            pub stock-read : {k : ℕ} → k ≡ pairsFault c (pairsOf n us' vs') (pairsOf m xs' ys') → StockRead f us' vs' xs' ys' k c n m
-            stock-read q =
-                let s = stock-held in
-                record {
-                  says = q ∙ rw (s .camerasAre, s .fitsAre, s .litAre) (sym (past7 ∙ rw (count-is, le-leb _ _ few)));
-                  held = λ o. s;
-                }
+  pub stock-many : 3900 < firsts → 8 ≡ firstNo (stockSized f)
+  stock-many k = sym (eight ∙ rw (count-is, lt-leb _ _ k))
 
-pub no-stock-read : {f us vs xs ys : List ℕ} {m k c n l : ℕ} → m ≡ k → k ≡ stockFault f → (k ≡ 0 → ⊥) → StockRead f us vs xs ys m c n l
-no-stock-read e h n = record { says = e ∙ h; held = λ z. absurd (n (sym e ∙ z)) }
+  fits-size : length (runAt 0x12 f next) ≡ firsts
+  fits-size = first-size (g .shaped) 0x12 0x13 refl refl (λ q. omega arith) (λ q. omega arith) (λ q. omega arith)
+
+  pub fits-room : {us vs : List ℕ} → firsts ≤ 3900 → Holds 3900 us vs →
+      Storable f next × (length (runAt 0x12 f next) ≤ length us) × (length (runAt 0x12 f next) ≤ length vs)
+  fits-room few r = (body-storable (g .shaped) (omega arith), omega (arith, fits-size, r), omega (arith, fits-size, r))
+
+  module _ {us vs us' vs' : List ℕ} {n turn : ℕ} (one : StoredPairs 0x12 f next us vs us' vs' n turn) where
+    lit-size : length (runAt 0x13 f turn) ≤ 8571
+    lit-size =
+        let s = second-size (g .shaped) 0x12 0x13 refl refl (λ q. omega arith) (λ q. omega arith) (λ q. omega arith) (one .passed) in
+        omega (arith, s, body-few (g .shaped) (omega arith), g .shaped .short)
+
+    pub lit-room : {xs ys : List ℕ} → Holds 8571 xs ys → Storable f turn × (length (runAt 0x13 f turn) ≤ length xs) × (length (runAt 0x13 f turn) ≤ length ys)
+    lit-room r = (
+      storable-next (body-storable (g .shaped) (omega arith)) (one .passed),
+      omega (arith, lit-size, r),
+      omega (arith, lit-size, r),
+    )
+
+    module _ {xs ys xs' ys' : List ℕ} {m end : ℕ} (two : StoredPairs 0x13 f turn xs ys xs' ys' m end) where
+      fits-here : (n ≡ length (stockIn f .fits)) × PairsStored (stockIn f .fits) us vs us' vs'
+      fits-here =
+          stored-as (stockIn f .fits) one (first-pairs (g .shaped) 0x12 0x13 refl refl (λ q. omega arith) (λ q. omega arith) (λ q. omega arith))
+
+      lit-here : (m ≡ length (stockIn f .lit)) × PairsStored (stockIn f .lit) xs ys xs' ys'
+      lit-here =
+          stored-as (stockIn f .lit) two
+          (second-pairs (g .shaped) 0x12 0x13 refl refl (λ q. omega arith) (λ q. omega arith) (λ q. omega arith) (one .passed))
+
+      pub stock-holds : Holds n us' vs' × Holds m xs' ys'
+      stock-holds = (
+        back-holds (stockIn f .fits) (fits-here .0) (fits-here .1),
+        back-holds (stockIn f .lit) (lit-here .0) (lit-here .1),
+      )
+
+      fits-back : pairsOf n us' vs' ≡ stockIn f .fits
+      fits-back = back-pairs (stockIn f .fits) (fits-here .0) (fits-here .1)
+
+      lit-back : pairsOf m xs' ys' ≡ stockIn f .lit
+      lit-back = back-pairs (stockIn f .lit) (lit-here .0) (lit-here .1)
+
+      pub stock-read : {k number cameras fits lit : ℕ} → firsts ≤ 3900 → k ≡ firstNo (pairsQuestions c (pairsOf n us' vs') (pairsOf m xs' ys')) →
+          StockTold k c n m number cameras fits lit → StockRead f us vs xs ys us' vs' xs' ys' number cameras fits lit
+      stock-read few q t =
+          let none : firstNo (stockSized f) ≡ 0 = eight ∙ rw (count-is, le-leb _ _ few) in
+          let later : firstNo (pairsQuestions c (pairsOf n us' vs') (pairsOf m xs' ys')) ≡ firstNo (pairsQuestions (stockIn f .cameras) (stockIn f .fits) (stockIn f .lit)) =
+          rw (fits-back, lit-back, g .cameras-are) in
+          record {
+            says =
+                t .0 ∙ q ∙ later ∙
+                sym (stock-asked f ∙ first-go (stockSized f) (pairsQuestions (stockIn f .cameras) (stockIn f .fits) (stockIn f .lit)) refl none);
+            cameras-are = beside-same (t .0) (t .1) (g .cameras-are);
+            fits-are = beside-same (t .0) (t .2) (fits-here .0);
+            lit-are = beside-same (t .0) (t .3) (lit-here .0);
+            stores = all-pairs (stockSized f) (stockIn f .fits) none (fits-here .1);
+            stores-lit = all-pairs (stockSized f) (stockIn f .lit) none (lit-here .1);
+          }
+
+-- WHERE NOTHING IS REFUSED
+pub stock-held : {f us vs xs ys us' vs' xs' ys' : List ℕ} {n c k l : ℕ} → StockRead f us vs xs ys us' vs' xs' ys' n c k l → n ≡ 0 →
+    StockHeld f us' vs' xs' ys' c k l
+stock-held {f} {us} {vs} {xs} {ys} {us'} {vs'} {xs'} {ys'} r e =
+    let fault : stockFault f ≡ 0 = sym (r .says) ∙ e in
+    let none = first-none (stockSized f) (pairsQuestions (stockIn f .cameras) (stockIn f .fits) (stockIn f .lit)) refl (sym (stock-asked f) ∙ fault) .0 in
+    let p = subst (λ (zs : List Pair). PairsStored zs us vs us' vs') (stored-all (stockSized f) (stockIn f .fits) none) (r .stores) in
+    let q = subst (λ (zs : List Pair). PairsStored zs xs ys xs' ys') (stored-all (stockSized f) (stockIn f .lit) none) (r .stores-lit) in
+    let i = r .fits-are ∙ answered-none _ e in
+    let j = r .lit-are ∙ answered-none _ e in
+    record {
+      camerasAre = r .cameras-are ∙ answered-none _ e;
+      fitsRoom = back-holds (stockIn f .fits) i p;
+      fitsAre = back-pairs (stockIn f .fits) i p;
+      litRoom = back-holds (stockIn f .lit) j q;
+      litAre = back-pairs (stockIn f .lit) j q;
+    }

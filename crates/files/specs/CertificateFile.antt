@@ -2,6 +2,9 @@
 --   isPathFile                        the header is a path's
 --   pathArcs, pathFault               a path's arc numbers, and its questions 2 to 9
 --   barrierClasses, barrierFault      a barrier's classes, and its questions 2 to 9
+--   pathSized, pathQuestions          a path's questions 2 to 8, and all of them, as lists
+--   barrierSized, barrierQuestions    a barrier's
+--   pathStored, barrierStored         what a reader stores: the body where 2 to 8 are answered yes
 --   certFault, certHolds              of either kind: the first question answered no, and past the questions whether it holds
 --   pathText, barrierText             a path and a barrier as they are written
 use mathlib.Core.Bool.{Bool, true, _&&_}
@@ -12,10 +15,13 @@ use lib.ListN.{length}
 use Rattle.counting.specs.Tests.{pick, all}
 use Rattle.counting.specs.Pairs.{Pair, secondsOf}
 use Rattle.frames.specs.Frames.{orElse, unless, hexAt, firstLine, bodyLines, shapeFault, pathForm, barrierForm, pairsIn, numbersIn, frame2, frame6, frameOf4}
+use Rattle.frames.specs.Questions.{Question, ask}
+use Rattle.frames.specs.Shape.{certificateQuestions}
 use Rattle.skew.specs.Graph.{Graph, nodes, isWanted, isBarrier}
+use Rattle.files.specs.Tables.{stored}
 
 abbrev pub isPathFile : (file : List ℕ) → Bool
-isPathFile f = eqb (hexAt 0 2 (firstLine f)) 33
+isPathFile f = eqb (hexAt 0 2 (firstLine f)) 0x21
 
 -- A PATH
 abbrev pub pathArcs : (file : List ℕ) → List ℕ
@@ -29,15 +35,35 @@ pathFault g f =
 -- A BARRIER: line i names node i
 unfoldable pub namesInOrder : (node : ℕ) → List Pair → Bool
 namesInOrder i [] = true
-namesInOrder i (x ∷ xs) = eqb (x .first) i && leb (x .second) 130 && namesInOrder (suc i) xs
+namesInOrder i (x ∷ xs) = eqb (x .first) i && leb (x .second) 0x82 && namesInOrder (suc i) xs
 
 abbrev pub barrierClasses : (file : List ℕ) → List ℕ
-barrierClasses f = secondsOf (pairsIn 50 (bodyLines f))
+barrierClasses f = secondsOf (pairsIn 0x32 (bodyLines f))
 
 abbrev pub barrierFault : Graph → (file : List ℕ) → ℕ
 barrierFault g f =
     orElse (shapeFault barrierForm f true)
-    (orElse (unless (eqb (length (bodyLines f)) (nodes g)) 8) (unless (namesInOrder 0 (pairsIn 50 (bodyLines f))) 9))
+    (orElse (unless (eqb (length (bodyLines f)) (nodes g)) 8) (unless (namesInOrder 0 (pairsIn 0x32 (bodyLines f))) 9))
+
+-- AS LISTS: 2 to 8, then the body is stored, then 9; a path over so many arcs, a barrier over so many nodes
+abbrev pub pathSized : (file : List ℕ) → List Question
+pathSized f = certificateQuestions pathForm f (leb (length (bodyLines f)) 255)
+
+abbrev pub pathQuestions : (arcs : ℕ) → (file : List ℕ) → List Question
+pathQuestions n f = pathSized f ++ ask 9 (all (λ (i : ℕ). ltb i n) (pathArcs f)) ∷ []
+
+abbrev pub barrierSized : (nodes : ℕ) → (file : List ℕ) → List Question
+barrierSized n f = certificateQuestions barrierForm f (eqb (length (bodyLines f)) n)
+
+abbrev pub barrierQuestions : (nodes : ℕ) → (file : List ℕ) → List Question
+barrierQuestions n f = barrierSized n f ++ ask 9 (namesInOrder 0 (pairsIn 0x32 (bodyLines f))) ∷ []
+
+-- what a reader stores
+abbrev pub pathStored : (file : List ℕ) → List ℕ
+pathStored f = stored (pathSized f) (pathArcs f)
+
+abbrev pub barrierStored : (nodes : ℕ) → (file : List ℕ) → List Pair
+barrierStored n f = stored (barrierSized n f) (pairsIn 0x32 (bodyLines f))
 
 -- EITHER
 abbrev pub certFault : Graph → (file : List ℕ) → ℕ
@@ -49,14 +75,14 @@ certHolds g f = pick (isPathFile f) (isWanted g (pathArcs f)) (isBarrier g (barr
 -- WRITTEN
 unfoldable pub pathLines : (arcs : List ℕ) → List ℕ
 pathLines [] = []
-pathLines (i ∷ is) = frameOf4 34 i ++ pathLines is
+pathLines (i ∷ is) = frameOf4 0x22 i ++ pathLines is
 
 abbrev pub pathText : (arcs : List ℕ) → List ℕ
-pathText is = frame2 33 ++ pathLines is ++ frameOf4 47 (length is)
+pathText is = frame2 0x21 ++ pathLines is ++ frameOf4 0x2F (length is)
 
 unfoldable pub classLines : (node : ℕ) → (classes : List ℕ) → List ℕ
 classLines v [] = []
-classLines v (c ∷ cs) = frame6 50 v c ++ classLines (suc v) cs
+classLines v (c ∷ cs) = frame6 0x32 v c ++ classLines (suc v) cs
 
 abbrev pub barrierText : (classes : List ℕ) → List ℕ
-barrierText cs = frame2 49 ++ classLines 0 cs ++ frameOf4 63 (length cs)
+barrierText cs = frame2 0x31 ++ classLines 0 cs ++ frameOf4 0x3F (length cs)

@@ -2,35 +2,55 @@
 --   headerFits    question 5: mate pairs 1 to 128, the source a node
 --   graphIn       the graph that a file's frames say
 --   arcNamed      both ends of an arc exist
---   arcsFault     questions 9 and 10, of the arcs alone
 --   graphFault    questions 2 to 10: the number of the first answered no, 0 where there is none
+--   numbersFit, arcsFit             question 5 of two numbers, question 8 of a number of arcs
+--   graphSized, arcsQuestions       questions 2 to 8, and 9 and 10 of arcs between so many nodes
+--   graphQuestions                  the questions of graphFault, as a list
+--   arcsStored                      the arcs that a reader stores: the graph's where 2 to 8 are answered yes
 use mathlib.Core.Bool.{Bool, _&&_}
-use mathlib.Core.List.{List}
+use mathlib.Core.List.{List, [], _∷_, _++_}
 use Prim.Native.Nat.{ℕ, _*_, _%_}
 use lib.Dec.{ltb, leb, eqb}
 use lib.ListN.{length}
 use Rattle.counting.specs.Tests.{all}
-use Rattle.counting.specs.Pairs.{Pair}
+use Rattle.counting.specs.Pairs.{Pair, pairNamed}
 use Rattle.frames.specs.Frames.{isIn, orElse, unless, hexAt, firstLine, bodyLines, shapeFault, graphForm, pairsIn}
-use Rattle.matching.specs.Promise.{pairNamed}
+use Rattle.frames.specs.Questions.{Question, ask}
+use Rattle.frames.specs.Shape.{sizedQuestions}
 use Rattle.skew.specs.Graph.{Graph, nodes, matesFit}
+use Rattle.files.specs.Tables.{stored}
 
 abbrev pub headerFits : (file : List ℕ) → Bool
 headerFits f = isIn 1 128 (hexAt 2 2 (firstLine f)) && ltb (hexAt 4 2 (firstLine f)) (2 * hexAt 2 2 (firstLine f))
 
 abbrev pub graphIn : (file : List ℕ) → Graph
 graphIn f =
-    record { pairs = hexAt 2 2 (firstLine f); source = hexAt 4 2 (firstLine f); arcs = pairsIn 2 (bodyLines f) }
+    record { pairs = hexAt 2 2 (firstLine f); source = hexAt 4 2 (firstLine f); arcs = pairsIn 0x02 (bodyLines f) }
 
 abbrev pub arcNamed : Graph → Pair → Bool
 arcNamed g x = ltb (x .first) (nodes g) && ltb (x .second) (nodes g)
-
--- 9 and 10, of arcs between so many nodes
-abbrev pub arcsFault : (nodes : ℕ) → List Pair → ℕ
-arcsFault n xs = orElse (unless (all (pairNamed n) xs) 9) (unless (matesFit xs) 10)
 
 abbrev pub graphFault : (file : List ℕ) → ℕ
 graphFault f =
     orElse (shapeFault graphForm f (headerFits f))
     (orElse (unless (eqb (length (graphIn f .arcs) % 2) 0 && leb (length (graphIn f .arcs)) 8192) 8)
     (orElse (unless (all (arcNamed (graphIn f)) (graphIn f .arcs)) 9) (unless (matesFit (graphIn f .arcs)) 10)))
+
+-- AS A LIST: 2 to 8, then the arcs are stored, then 9 and 10
+abbrev pub numbersFit : (pairs source : ℕ) → Bool
+numbersFit p s = isIn 1 128 p && ltb s (2 * p)
+
+abbrev pub arcsFit : (arcs : ℕ) → Bool
+arcsFit n = eqb (n % 2) 0 && leb n 8192
+
+abbrev pub graphSized : (file : List ℕ) → List Question
+graphSized f = sizedQuestions graphForm f (headerFits f) (arcsFit (length (graphIn f .arcs)))
+
+abbrev pub arcsQuestions : (nodes : ℕ) → List Pair → List Question
+arcsQuestions n xs = ask 9 (all (pairNamed n) xs) ∷ ask 10 (matesFit xs) ∷ []
+
+abbrev pub graphQuestions : (file : List ℕ) → List Question
+graphQuestions f = graphSized f ++ arcsQuestions (nodes (graphIn f)) (graphIn f .arcs)
+
+abbrev pub arcsStored : (file : List ℕ) → List Pair
+arcsStored f = stored (graphSized f) (graphIn f .arcs)

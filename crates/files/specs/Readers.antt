@@ -1,13 +1,24 @@
 -- What reading a file answers: the number of the first question answered no, or 0 and what the file holds, in slices that the caller lends.
+-- Beside a refusal the other numbers are 0; the slices hold what was stored before it, and nothing else in them differs.
+--   GraphTold n p s a ..            a graph's numbers beside n
 --   GraphHeld, GraphRead            a graph: its mate pairs, its source, and its arcs by tails and heads
+--   StockTold n c k l ..            a stock's numbers beside n
 --   StockHeld, StockRead            a stock: its cameras, its fits and its lit pairs
 use mathlib.Core.Path.{_≡_}
 use mathlib.Core.List.{List}
 use Prim.Native.Nat.{ℕ}
+use lib.ListN.{length}
 use Rattle.counting.specs.Pairs.{pairsOf}
+use Rattle.frames.specs.Questions.{answered}
+use Rattle.frames.specs.Stores.{PairsStored}
 use Rattle.files.specs.Tables.{Holds}
-use Rattle.files.specs.GraphFile.{graphIn, graphFault}
-use Rattle.files.specs.StockFile.{stockIn, stockFault}
+use Rattle.files.specs.GraphFile.{graphIn, graphFault, arcsStored}
+use Rattle.files.specs.StockFile.{stockIn, stockFault, fitsStored, litStored}
+
+-- A GRAPH
+abbrev pub GraphTold : (n p s a number pairs source arcs : ℕ) → Type 0
+GraphTold n p s a number pairs source arcs =
+    (number ≡ n) × (pairs ≡ answered n p) × (source ≡ answered n s) × (arcs ≡ answered n a)
 
 pub record GraphHeld (f tails heads : List ℕ) (pairs source arcs : ℕ) : Type 0 where
   pub pairsAre : pairs ≡ graphIn f .pairs
@@ -15,9 +26,17 @@ pub record GraphHeld (f tails heads : List ℕ) (pairs source arcs : ℕ) : Type
   pub room : Holds arcs tails heads
   pub arcsAre : pairsOf arcs tails heads ≡ graphIn f .arcs
 
-pub record GraphRead (f tails heads : List ℕ) (number pairs source arcs : ℕ) : Type 0 where
+pub record GraphRead (f tails heads tailsAfter headsAfter : List ℕ) (number pairs source arcs : ℕ) : Type 0 where
   pub says : number ≡ graphFault f
-  pub held : number ≡ 0 → GraphHeld f tails heads pairs source arcs
+  pub pairs-are : pairs ≡ answered number (graphIn f .pairs)
+  pub source-is : source ≡ answered number (graphIn f .source)
+  pub arcs-are : arcs ≡ answered number (length (graphIn f .arcs))
+  pub stores : PairsStored (arcsStored f) tails heads tailsAfter headsAfter
+
+-- A STOCK
+abbrev pub StockTold : (n c k l number cameras fits lit : ℕ) → Type 0
+StockTold n c k l number cameras fits lit =
+    (number ≡ n) × (cameras ≡ answered n c) × (fits ≡ answered n k) × (lit ≡ answered n l)
 
 pub record StockHeld (f firsts seconds ones others : List ℕ) (cameras fits lit : ℕ) : Type 0 where
   pub camerasAre : cameras ≡ stockIn f .cameras
@@ -26,6 +45,10 @@ pub record StockHeld (f firsts seconds ones others : List ℕ) (cameras fits lit
   pub litRoom : Holds lit ones others
   pub litAre : pairsOf lit ones others ≡ stockIn f .lit
 
-pub record StockRead (f firsts seconds ones others : List ℕ) (number cameras fits lit : ℕ) : Type 0 where
+pub record StockRead (f firsts seconds ones others firstsAfter secondsAfter onesAfter othersAfter : List ℕ) (number cameras fits lit : ℕ) : Type 0 where
   pub says : number ≡ stockFault f
-  pub held : number ≡ 0 → StockHeld f firsts seconds ones others cameras fits lit
+  pub cameras-are : cameras ≡ answered number (stockIn f .cameras)
+  pub fits-are : fits ≡ answered number (length (stockIn f .fits))
+  pub lit-are : lit ≡ answered number (length (stockIn f .lit))
+  pub stores : PairsStored (fitsStored f) firsts seconds firstsAfter secondsAfter
+  pub stores-lit : PairsStored (litStored f) ones others onesAfter othersAfter

@@ -2,8 +2,10 @@
 -- are document 03's).
 --   headerFits               question 5: at most 127 cameras
 --   stockIn                  the stock that a file's frames say
---   pairsFault               questions 9 and 11 to 14, of the pairs alone
 --   stockFault               questions 2 to 9 and 11 to 14: the number of the first answered no, 0 where there is none
+--   stockSized, pairsQuestions     questions 2 to 8, and 9 and 11 to 14 of fits and lit pairs
+--   stockQuestions           the questions of stockFault, as a list
+--   fitsStored, litStored    the pairs that a reader stores: the stock's where 2 to 8 are answered yes
 --   markLines, sheetText     the standing sheet, from the cameras and the fits alone
 --   alike                    two stocks with as many cameras, the same greatest number and the same marks: the same sheet
 --   planLines, planText      a plan
@@ -13,24 +15,19 @@ use Prim.Native.Nat.{ℕ, suc}
 use lib.Dec.{leb, eqb}
 use lib.ListN.{length}
 use Rattle.counting.specs.Tests.{all, same}
-use Rattle.counting.specs.Pairs.{Pair}
+use Rattle.counting.specs.Pairs.{Pair, pairNamed}
 use Rattle.frames.specs.Frames.{orElse, unless, hexAt, firstLine, bodyLines, shapeFault, stockForm, pairsIn, frame4, frame6, frameOf4}
-use Rattle.matching.specs.Promise.{pairNamed}
+use Rattle.frames.specs.Questions.{Question, ask}
+use Rattle.frames.specs.Shape.{sizedQuestions}
 use Rattle.matching.specs.Stock.{Stock, hasPair, noneShared, greatest, marksOf, pairsRise}
+use Rattle.files.specs.Tables.{stored}
 
 abbrev pub headerFits : (file : List ℕ) → Bool
 headerFits f = leb (hexAt 2 2 (firstLine f)) 127
 
 abbrev pub stockIn : (file : List ℕ) → Stock
 stockIn f =
-    record { cameras = hexAt 2 2 (firstLine f); fits = pairsIn 18 (bodyLines f); lit = pairsIn 19 (bodyLines f) }
-
--- 9 and 11 to 14, of fits and lit pairs
-abbrev pub pairsFault : (cameras : ℕ) → (fits lit : List Pair) → ℕ
-pairsFault n fs ls =
-    orElse (unless (all (pairNamed n) fs && all (pairNamed n) ls) 9)
-    (orElse (unless (pairsRise fs) 11)
-    (orElse (unless (pairsRise ls) 12) (orElse (unless (all (hasPair fs) ls) 13) (unless (noneShared ls) 14))))
+    record { cameras = hexAt 2 2 (firstLine f); fits = pairsIn 0x12 (bodyLines f); lit = pairsIn 0x13 (bodyLines f) }
 
 abbrev pub stockFault : (file : List ℕ) → ℕ
 stockFault f =
@@ -42,13 +39,31 @@ stockFault f =
     (orElse (unless (pairsRise (stockIn f .lit)) 12)
     (orElse (unless (all (hasPair (stockIn f .fits)) (stockIn f .lit)) 13) (unless (noneShared (stockIn f .lit)) 14))))))
 
+-- AS A LIST: 2 to 8, then the pairs are stored, then 9 and 11 to 14
+abbrev pub stockSized : (file : List ℕ) → List Question
+stockSized f = sizedQuestions stockForm f (headerFits f) (leb (length (stockIn f .fits)) 3900)
+
+abbrev pub pairsQuestions : (cameras : ℕ) → (fits lit : List Pair) → List Question
+pairsQuestions n fs ls =
+    ask 9 (all (pairNamed n) fs && all (pairNamed n) ls) ∷ ask 11 (pairsRise fs) ∷ ask 12 (pairsRise ls) ∷ ask 13 (all (hasPair fs) ls) ∷
+    ask 14 (noneShared ls) ∷ []
+
+abbrev pub stockQuestions : (file : List ℕ) → List Question
+stockQuestions f = stockSized f ++ pairsQuestions (stockIn f .cameras) (stockIn f .fits) (stockIn f .lit)
+
+abbrev pub fitsStored : (file : List ℕ) → List Pair
+fitsStored f = stored (stockSized f) (stockIn f .fits)
+
+abbrev pub litStored : (file : List ℕ) → List Pair
+litStored f = stored (stockSized f) (stockIn f .lit)
+
 -- THE STANDING SHEET
 unfoldable pub markLines : (camera : ℕ) → (marks : List ℕ) → List ℕ
 markLines u [] = []
-markLines u (m ∷ ms) = frame6 67 u m ++ markLines (suc u) ms
+markLines u (m ∷ ms) = frame6 0x43 u m ++ markLines (suc u) ms
 
 abbrev pub sheetText : (cameras : ℕ) → List Pair → List ℕ
-sheetText n fs = frame4 65 (greatest fs) ++ markLines 0 (marksOf n fs) ++ frameOf4 79 n
+sheetText n fs = frame4 0x41 (greatest fs) ++ markLines 0 (marksOf n fs) ++ frameOf4 0x4F n
 
 -- two stocks with the same sheet
 abbrev pub alike : (one other : Stock) → Bool
@@ -59,7 +74,7 @@ alike s t =
 -- A PLAN
 unfoldable pub planLines : (pairs : List Pair) → List ℕ
 planLines [] = []
-planLines (x ∷ xs) = frame6 82 (x .first) (x .second) ++ planLines xs
+planLines (x ∷ xs) = frame6 0x52 (x .first) (x .second) ++ planLines xs
 
 abbrev pub planText : (pairs : List Pair) → List ℕ
-planText ps = frame4 81 (length ps) ++ planLines ps ++ frameOf4 95 (length ps)
+planText ps = frame4 0x51 (length ps) ++ planLines ps ++ frameOf4 0x5F (length ps)

@@ -22,6 +22,7 @@ fn put_numbered(out: &mut [u8], at: usize, kind: usize, values: &[u8]) -> usize
 {
     let mut next = at;
     let mut i: usize = 0;
+    // invariant: specs/Answers Writing; falls: values left
     while i < values.len() {
         next = put_frame6(out, next, kind, i, values[i] as usize);
         i += 1;
@@ -32,10 +33,11 @@ fn put_numbered(out: &mut [u8], at: usize, kind: usize, values: &[u8]) -> usize
 // A frame for each arc number.
 fn put_arcs(out: &mut [u8], at: usize, arcs: &[usize]) -> usize
     requires { ⌜ at + 7 * length (now arcs) ≤ length (now out) ⌝ }
-    ensures { λ r. ⌜ Written (now (out .entry)) at (7 * length (now (arcs .entry))) (eachLine (λ (i : ℕ) (x : ℕ). frameOf4 34 x) 0 (now (arcs .entry))) (now (out .exit)) r ⌝ }
+    ensures { λ r. ⌜ Written (now (out .entry)) at (7 * length (now (arcs .entry))) (eachLine (λ (i : ℕ) (x : ℕ). frameOf4 0x22 x) 0 (now (arcs .entry))) (now (out .exit)) r ⌝ }
 {
     let mut next = at;
     let mut i: usize = 0;
+    // invariant: specs/Answers Writing; falls: arcs left
     while i < arcs.len() {
         next = put_frame_of4(out, next, 0x22, arcs[i]);
         i += 1;
@@ -47,10 +49,11 @@ fn put_arcs(out: &mut [u8], at: usize, arcs: &[usize]) -> usize
 fn put_pairs(out: &mut [u8], at: usize, firsts: &[u8], seconds: &[u8]) -> usize
     requires { ⌜ length (now seconds) ≡ length (now firsts) ⌝ }
     requires { ⌜ at + 7 * length (now firsts) ≤ length (now out) ⌝ }
-    ensures { λ r. ⌜ Written (now (out .entry)) at (7 * length (now (firsts .entry))) (eachLine (λ (i : ℕ) (x : ℕ). frame6 82 x (getD (now (seconds .entry)) i 0)) 0 (now (firsts .entry))) (now (out .exit)) r ⌝ }
+    ensures { λ r. ⌜ Written (now (out .entry)) at (7 * length (now (firsts .entry))) (eachLine (λ (i : ℕ) (x : ℕ). frame6 0x52 x (getD (now (seconds .entry)) i 0)) 0 (now (firsts .entry))) (now (out .exit)) r ⌝ }
 {
     let mut next = at;
     let mut i: usize = 0;
+    // invariant: specs/Answers Writing; falls: pairs left
     while i < firsts.len() {
         next = put_frame6(out, next, 0x52, firsts[i] as usize, seconds[i] as usize);
         i += 1;
@@ -88,7 +91,7 @@ pub fn put_plan(out: &mut [u8], firsts: &[u8], seconds: &[u8]) -> usize
 
 pub fn put_sheet(out: &mut [u8], pairs: usize, marks: &[u8]) -> usize
     requires { ⌜ 12 + 7 * length (now marks) ≤ length (now out) ⌝ }
-    ensures { λ r. ⌜ WrittenFirst (frame4 65 pairs ++ markLines 0 (now (marks .entry)) ++ frameOf4 79 (length (now (marks .entry)))) (now (out .entry)) (now (out .exit)) r ⌝ }
+    ensures { λ r. ⌜ WrittenFirst (frame4 0x41 pairs ++ markLines 0 (now (marks .entry)) ++ frameOf4 0x4F (length (now (marks .entry)))) (now (out .entry)) (now (out .exit)) r ⌝ }
 {
     let first = put_frame4(out, 0, 0x41, pairs);
     let last = put_numbered(out, first, 0x43, marks);

@@ -5,11 +5,10 @@ ghost use Prim.Native.Nat.{ℕ, _≤_};
 ghost use lib.Dec.{ltb};
 ghost use lib.ListN.{length, take};
 ghost use Rattle.counting.specs.Tests.{all};
-ghost use Rattle.counting.specs.Pairs.{pair, pairsOf};
+ghost use Rattle.counting.specs.Pairs.{pair, pairsOf, pairNamed};
 ghost use Rattle.skew.specs.Graph.{mate, matesFit};
 ghost use Rattle.matching.specs.Stock.{samePair, hasPair, noneShared, pairBefore, pairsRise};
 ghost use Rattle.files.specs.Tables.{Holds};
-ghost use Rattle.matching.specs.Promise.{pairNamed};
 ghost use Rattle.files.specs.CertificateFile.{namesInOrder};
 
 // 9, of arcs and of cameras: is every number of the pairs below the bound?
@@ -18,6 +17,7 @@ pub fn are_named(firsts: &[u8], seconds: &[u8], count: usize, bound: usize) -> b
     ensures { λ r. ⌜ r ≡ all (pairNamed bound) (pairsOf count (now (firsts .entry)) (now (seconds .entry))) ⌝ }
 {
     let mut i: usize = 0;
+    // invariant: the answer is `all (pairNamed bound)` of what stands from i on; falls: pairs left
     while i < count {
         if bound <= firsts[i] as usize {
             return false;
@@ -42,6 +42,7 @@ pub fn are_mated(tails: &[u8], heads: &[u8], count: usize) -> bool
     ensures { λ r. ⌜ r ≡ matesFit (pairsOf count (now (tails .entry)) (now (heads .entry))) ⌝ }
 {
     let mut i: usize = 0;
+    // invariant: the answer is `matesFit` of what stands from i on; falls: pairs left
     while i < count {
         if i + 1 == count {
             return true;
@@ -76,6 +77,7 @@ pub fn pairs_rise(firsts: &[u8], seconds: &[u8], count: usize) -> bool
     ensures { λ r. ⌜ r ≡ pairsRise (pairsOf count (now (firsts .entry)) (now (seconds .entry))) ⌝ }
 {
     let mut i: usize = 0;
+    // invariant: the answer is `pairsRise` of what stands from i on; falls: pairs left
     while i < count {
         if seconds[i] <= firsts[i] {
             return false;
@@ -106,6 +108,7 @@ pub fn has_pair(firsts: &[u8], seconds: &[u8], count: usize, u: u8, v: u8) -> bo
     ensures { λ r. ⌜ r ≡ hasPair (pairsOf count (now (firsts .entry)) (now (seconds .entry))) (pair u v) ⌝ }
 {
     let mut i: usize = 0;
+    // invariant: the answer is `hasPair` of what stands from i on; falls: pairs left
     while i < count {
         if is_pair(u, v, firsts[i], seconds[i]) {
             return true;
@@ -128,6 +131,7 @@ pub fn are_fits(
     ensures { λ r. ⌜ r ≡ all (hasPair (pairsOf fits (now (firsts .entry)) (now (seconds .entry)))) (pairsOf lit (now (ones .entry)) (now (others .entry))) ⌝ }
 {
     let mut i: usize = 0;
+    // invariant: the answer is `all (hasPair fits)` of what stands from i on; falls: lit pairs left
     while i < lit {
         if !has_pair(firsts, seconds, fits, ones[i], others[i]) {
             return false;
@@ -144,6 +148,7 @@ pub fn none_shared(firsts: &[u8], seconds: &[u8], count: usize) -> bool
 {
     let mut marks = [0u8; 256];
     let mut i: usize = 0;
+    // invariant: proofs/SharedCameras sharesNone, of the marks and the pairs from i on; falls: pairs left
     while i < count {
         let u = firsts[i] as usize;
         let v = seconds[i] as usize;
@@ -166,6 +171,7 @@ pub fn are_below(numbers: &[u16], count: usize, bound: usize) -> bool
     ensures { λ r. ⌜ r ≡ all (λ (i : ℕ). ltb i bound) (take count (now (numbers .entry))) ⌝ }
 {
     let mut i: usize = 0;
+    // invariant: the answer is `all below the bound` of what stands from i on; falls: numbers left
     while i < count {
         if bound <= numbers[i] as usize {
             return false;
@@ -181,6 +187,7 @@ pub fn in_order(nodes: &[u8], classes: &[u8], count: usize) -> bool
     ensures { λ r. ⌜ r ≡ namesInOrder 0 (pairsOf count (now (nodes .entry)) (now (classes .entry))) ⌝ }
 {
     let mut i: usize = 0;
+    // invariant: the answer is `namesInOrder` of what stands from i on; falls: pairs left
     while i < count {
         if nodes[i] as usize != i {
             return false;

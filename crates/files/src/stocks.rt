@@ -1,35 +1,29 @@
 // Stock files read: questions 2 to 9 and 11 to 14, and the pairs stored (document 01, "Questions put to a call").
+//   Stock          a stock as it was read
+//   pairs_fault    questions 9 and 11 to 14
+//   told           the numbers beside a number of the questions
+//   read_stock     all of them, in order
 use crate::questions::are_fits;
 use crate::questions::are_named;
 use crate::questions::none_shared;
 use crate::questions::pairs_rise;
 use frames::numbers::hex2;
-use frames::shape::stock_shape;
+use frames::shape::stock_body;
+use frames::shape::stock_header;
 use frames::store::store_pairs;
 ghost use mathlib.Core.Path.{_≡_};
 ghost use Rattle.counting.specs.Pairs.{pairsOf};
-ghost use Rattle.frames.specs.Frames.{stockForm};
-ghost use Rattle.frames.specs.Shape.{headerFault};
+ghost use Rattle.frames.specs.Questions.{firstNo};
 ghost use Rattle.files.specs.Tables.{Holds};
-ghost use Rattle.files.specs.StockFile.{headerFits, pairsFault};
-ghost use Rattle.files.specs.Readers.{StockRead};
+ghost use Rattle.files.specs.StockFile.{pairsQuestions};
+ghost use Rattle.files.specs.Readers.{StockTold, StockRead};
 
-// A stock as it was read: the refusal, or 0 and its numbers.
+// A stock as it was read: the refusal, or 0 and its numbers; beside a refusal they are 0.
 pub struct Stock {
     pub number: u8,
     pub cameras: usize,
     pub fits: usize,
     pub lit: usize,
-}
-
-// 5, of a file whose header has the right kind and length.
-fn header_fits(f: &[u8]) -> bool
-    ensures { λ r. ⌜ (headerFault stockForm (now (f .entry)) ≡ 0 → r ≡ headerFits (now (f .entry))) ⌝ }
-{
-    if f.len() < 4 {
-        return false;
-    }
-    hex2(f, 2) <= 127
 }
 
 // 9 and 11 to 14, of fits and lit pairs: the first answered no, or 0.
@@ -43,7 +37,7 @@ fn pairs_fault(
     cameras: usize,
 ) -> u8
     requires { ⌜ Holds fits (now firsts) (now seconds) × Holds lit (now ones) (now others) ⌝ }
-    ensures { λ r. ⌜ r ≡ pairsFault cameras (pairsOf fits (now (firsts .entry)) (now (seconds .entry))) (pairsOf lit (now (ones .entry)) (now (others .entry))) ⌝ }
+    ensures { λ r. ⌜ r ≡ firstNo (pairsQuestions cameras (pairsOf fits (now (firsts .entry)) (now (seconds .entry))) (pairsOf lit (now (ones .entry)) (now (others .entry)))) ⌝ }
 {
     if !are_named(firsts, seconds, fits, cameras) {
         return 9;
@@ -66,14 +60,22 @@ fn pairs_fault(
     0
 }
 
-fn no_stock(number: u8) -> Stock
-    ensures { λ r. ⌜ r .number ≡ number ⌝ }
+fn told(number: u8, cameras: usize, fits: usize, lit: usize) -> Stock
+    ensures { λ r. ⌜ StockTold number cameras fits lit (r .number) (r .cameras) (r .fits) (r .lit) ⌝ }
 {
+    if number != 0 {
+        return Stock {
+            number,
+            cameras: 0,
+            fits: 0,
+            lit: 0,
+        };
+    }
     Stock {
         number,
-        cameras: 0,
-        fits: 0,
-        lit: 0,
+        cameras,
+        fits,
+        lit,
     }
 }
 
@@ -87,31 +89,36 @@ pub fn read_stock(
     others: &mut [u8],
 ) -> Stock
     requires { ⌜ Holds 3900 (now firsts) (now seconds) × Holds 8571 (now ones) (now others) ⌝ }
-    ensures { λ r. ⌜ StockRead (now (f .entry)) (now (firsts .exit)) (now (seconds .exit)) (now (ones .exit)) (now (others .exit)) (r .number) (r .cameras) (r .fits) (r .lit) ⌝ }
+    ensures { λ r. ⌜ StockRead (now (f .entry)) (now (firsts .entry)) (now (seconds .entry)) (now (ones .entry)) (now (others .entry)) (now (firsts .exit)) (now (seconds .exit)) (now (ones .exit)) (now (others .exit)) (r .number) (r .cameras) (r .fits) (r .lit) ⌝ }
 {
-    let shape = stock_shape(f, header_fits(f));
-    let number = shape.number;
+    let header = stock_header(f);
+    let number = header.number;
     if number != 0 {
-        return no_stock(number);
+        return told(number, 0, 0, 0);
     }
-    if 3900 < shape.firsts {
-        return no_stock(8);
-    }
-    let fits = store_pairs(f, shape.next, 0x12, firsts, seconds);
-    let lit = store_pairs(f, fits.next, 0x13, ones, others);
     let cameras = hex2(f, 2);
-    Stock {
-        number: pairs_fault(
-            firsts,
-            seconds,
-            fits.count,
-            ones,
-            others,
-            lit.count,
-            cameras,
-        ),
-        cameras,
-        fits: fits.count,
-        lit: lit.count,
+    if 127 < cameras {
+        return told(5, 0, 0, 0);
     }
+    let next = header.next;
+    let body = stock_body(f, next);
+    let number = body.number;
+    if number != 0 {
+        return told(number, 0, 0, 0);
+    }
+    if 3900 < body.firsts {
+        return told(8, 0, 0, 0);
+    }
+    let fits = store_pairs(f, next, 0x12, firsts, seconds);
+    let lit = store_pairs(f, fits.next, 0x13, ones, others);
+    let number = pairs_fault(
+        firsts,
+        seconds,
+        fits.count,
+        ones,
+        others,
+        lit.count,
+        cameras,
+    );
+    told(number, cameras, fits.count, lit.count)
 }

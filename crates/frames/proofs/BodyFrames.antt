@@ -6,6 +6,7 @@
 --   BodyLeft, left-..                                             what is left of both questions at a line
 --   answer-end, answer-fail, answer-over                          the answers: at the last line, at a line that does not fit, at no line
 use mathlib.Core.Path.{_≡_, refl, ap, sym, _∙_}
+use mathlib.Core.Logic.{_≢_}
 use mathlib.Core.Bool.{Bool, true, false, _&&_, and-false, and-true}
 use mathlib.Core.List.{List, [], _∷_, _++_}
 use Prim.Native.Nat.{ℕ, suc, _+_, _-_, _≤_, _<_}
@@ -19,9 +20,10 @@ use Rattle.counting.specs.Tests.{pick, all}
 use Rattle.counting.proofs.Booleans.{and-left, and-right, and-both, by-test, true-false}
 use Rattle.frames.specs.Frames.{linesOf, hexAt, kindOf, Form, isFrameOf, laterFit, bodiesFit, pairIn, pairsIn}
 use Rattle.frames.specs.Lines.{part, LineAt}
-use Rattle.frames.specs.Shape.{bodiesOf, lastOf, beforeLast, linesFit, endFault, BodyAnswer}
+use Rattle.frames.specs.Shape.{bodiesOf, lastOf, beforeLast, linesFit, endFault, Counted, BodyAnswer}
 use Rattle.frames.proofs.LinePlaces.{part-length, lines-here, lines-some, last-here}
 use Rattle.frames.proofs.HexNumbers.{hex-part}
+use Rattle.frames.proofs.Questions.{answered-refused}
 
 -- A FRAME of a kind, with so many digits after it
 module _ (k n : ℕ) (l : List ℕ) (h : isFrameOf k n l ≡ true) where
@@ -254,28 +256,30 @@ pub first-same : (a j n : ℕ) → (j ≡ a → ⊥) → n ≡ pick (eqb j a) 1 
 first-same a j n e = rw (ne-eqb _ _ e) (omega arith)
 
 -- THE ANSWERS
-module _ (k : Form) (g : List ℕ) (count firsts : ℕ) where
-  answer-six : linesFit (k .bodies) (k .bodySize) (k .end) (linesOf g) ≡ false → BodyAnswer k g 6 count firsts
-  answer-six f = record { says = rw f; counts = λ z. absurd (omega arith); firstCounts = λ z. absurd (omega arith) }
+module _ {k : Form} {g : List ℕ} {count firsts at kind : ℕ} (a b : ℕ) (r : BodyLeft k a b g at count firsts kind) where
+  answer-six : {n c m : ℕ} → linesFit (k .bodies) (k .bodySize) (k .end) (linesOf g) ≡ false → Counted 6 0 0 n c m → BodyAnswer k g n c m
+  answer-six {n} f t =
+      let h : n ≢ 0 = λ z. omega (arith, t .0) in
+      record { says = t .0 ∙ rw f; counts = t .1 ∙ sym (answered-refused _ h); first-counts = t .2 ∙ sym (answered-refused _ h) }
 
-  pub answer-over : (a b at kind : ℕ) → BodyLeft k a b g at count firsts kind → length g ≤ at → BodyAnswer k g 6 count firsts
+  pub answer-over : {n c m : ℕ} → length g ≤ at → Counted 6 0 0 n c m → BodyAnswer k g n c m
   unfolding linesOf
-  answer-over a b at kind r h = answer-six (r .fits ∙ rw (drop-of-length-le g h))
+  answer-over h t = answer-six (r .fits ∙ rw (drop-of-length-le g h)) t
 
-  module _ (a b at end next kind : ℕ) (h : LineAt g at end next) (r : BodyLeft k a b g at count firsts kind) where
+  module _ {end next : ℕ} (h : LineAt g at end next) {n c m : ℕ} where
     pub answer-fail : next < length g → isFrameOf kind (k .bodySize) (part at end g) ≡ false → isFrameOf b (k .bodySize) (part at end g) ≡ false →
-        BodyAnswer k g 6 count firsts
-    answer-fail m t u = answer-six (left-fail k a b g at end next count firsts kind h r m t u)
+        Counted 6 0 0 n c m → BodyAnswer k g n c m
+    answer-fail o t u = answer-six (left-fail k a b g at end next count firsts kind h r o t u)
 
-    pub answer-end : (number : ℕ) → k .bodies ≡ bodiesOf a b → next ≡ length g → number ≡ endFault (k .end) count (part at end g) →
-        BodyAnswer k g number count firsts
-    answer-end number q o e =
+    pub answer-end : {number : ℕ} → k .bodies ≡ bodiesOf a b → next ≡ length g → number ≡ endFault (k .end) count (part at end g) →
+        Counted number count firsts n c m → BodyAnswer k g n c m
+    answer-end q o e t =
         let f = last-fits k a b g at end next count firsts kind h r o in
         let l = last-line k a b g at end next count firsts kind h r o in
-        let n = last-counts k a b g at end next count firsts kind h r o in
-        let m = last-firsts k a b g at end next count firsts kind h r o in
+        let s = last-counts k a b g at end next count firsts kind h r o in
+        let v = last-firsts k a b g at end next count firsts kind h r o in
         let p = first-kind a b in
-        record { says = rw (f, l, n) e; counts = λ z. sym n; firstCounts = λ z. rw (q, p) (sym m) }
+        record { says = t .0 ∙ rw (f, l, s) e; counts = rw (s, t .0) (t .1); first-counts = rw (q, p, v, t .0) (t .2) }
 
 -- the last line alone
 module _ (at end kind count : ℕ) (g : List ℕ) (h : end ≤ length g) (e : isFrameOf kind 4 (part at end g) ≡ true) (r : ℕ)

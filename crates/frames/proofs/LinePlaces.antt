@@ -2,6 +2,7 @@
 --   line-here                                     what a place, the line's length and its line end make a LineAt
 --   SameLine, same-..                             no line end stands from one place up to another; how a reader moves on
 --   lines-here, lines-some, last-here             the lines from a place on: the line there, and those from the next on
+--   line-after                                    where the line behind it begins
 --   ends-here                                     whether the last line is ended, from a place on
 --   part-snoc                                     a part with one byte more
 --   part-length, part-tail                        how long a part is; a part that goes on to the file's end
@@ -19,7 +20,7 @@ use borrow.Author.Tests.{ltb-true, ltb-false, lt-ltb}
 use Rattle.counting.specs.Tests.{all}
 use Rattle.counting.proofs.Booleans.{and-left, and-right, and-both, by-test}
 use Rattle.frames.specs.Frames.{withByte, linesOf, endsWhole}
-use Rattle.frames.specs.Lines.{lineEnd, lineLength, part, LineAt}
+use Rattle.frames.specs.Lines.{lineEnd, lineLength, part, lineAfter, LineAt}
 use Rattle.frames.proofs.LineEnds.{end-none, end-fits, lines-end, lines-byte, ends-end, ends-byte}
 
 -- THE FIRST LINE of what stands from a place on, and what stands past it
@@ -201,6 +202,9 @@ module _ (f : List ℕ) (at end next : ℕ) (h : LineAt f at end next) where
   pub last-here : next ≡ length f → linesOf (drop at f) ≡ part at end f ∷ []
   unfolding linesOf
   last-here e = lines-here ∙ rw (drop-of-length-le f {i = next} (omega arith))
+
+pub line-after : {f : List ℕ} {at end next : ℕ} → LineAt f at end next → next ≡ lineAfter f at
+line-after {f} l = l .goes ∙ ap (λ (e : ℕ). e + lineEnd (drop e f)) (l .ends)
 
 pub lines-some : (s : List ℕ) → 0 < length s → 0 < length (linesOf s)
 lines-some [] h = absurd (omega arith)

@@ -9,12 +9,14 @@
 --   run-first, past-first        lines of one kind, then of a second kind, then one of neither: the first run, what stands past it,
 --   run-second                   and the second run
 --   pairs-append, pairs-other    the pairs of a kind, of lines behind others and of lines of another kind
+--   run-pairs                    a run has as many pairs as lines
 --   pairs-first, pairs-second    so each run has the pairs of its kind of all these lines
 use mathlib.Core.Path.{_≡_, refl, ap, sym, _∙_}
 use mathlib.Core.Logic.{_≢_}
 use mathlib.Core.Bool.{Bool, true, false}
 use mathlib.Core.List.{List, [], _∷_, _++_, append-assoc, append-nil}
-use Prim.Native.Nat.{ℕ}
+use Prim.Native.Nat.{ℕ, suc}
+use lib.ListN.{length}
 use borrow.Author.Tests.{ne-eqb, eqb-true}
 use Rattle.counting.specs.Tests.{all}
 use Rattle.counting.specs.Pairs.{Pair}
@@ -94,6 +96,11 @@ pairs-other k m [] h n = refl
 pairs-other k m (l ∷ ls) h n =
     rw (other-kind k m l (and-left (hasKind m l) (all (hasKind m) ls) h) n)
     (pairs-other k m ls (and-right (hasKind m l) (all (hasKind m) ls) h) n)
+
+pub run-pairs : (k : ℕ) (ls : List (List ℕ)) → length (pairsIn k (runOf k ls)) ≡ length (runOf k ls)
+unfolding runOf pairsIn
+run-pairs k [] = refl
+run-pairs k (l ∷ ls) = by-test (hasKind k l) (λ e. rw (e, e) (ap suc (run-pairs k ls))) (λ e. rw e)
 
 -- TWO KINDS, then a line of neither
 module _ (k m : ℕ) (apart : m ≢ k) (ls ms : List (List ℕ)) (of-k : all (hasKind k) ls ≡ true) (of-m : all (hasKind m) ms ≡ true) where

@@ -1,40 +1,57 @@
 -- Questions 2 to 7 together, and what is known of a file that passes them.
---   shape-chain                               shapeFault as one chain: questions 2 to 4, the answer to 5, questions 6 and 7
---   fits-free                                 where 2, 3 or 4 is answered no, the answer to 5 does not matter
---   shaped                                    what is known where no question is answered no
---   answer-header, answer-five, answer-body   the answers, one for each way the questions end
+--   shape-asked                               document 03's chain is the first no of the list
+--   shape-header, shape-five, shape-body      its number, by where the questions end
+--   sized-shape, sized-eight                  the same with question 8
+--   shaped, read-shaped                       what is known where no question is answered no, and so from what the readers answer
+--   no-shape, answer-shape, answer-shaped     the answers of a file that has no question 5, and what is known of it
 use mathlib.Core.Path.{_≡_, refl, ap, sym, _∙_}
+use mathlib.Core.Logic.{_≢_}
 use mathlib.Core.Bool.{Bool, true, false, _&&_}
 use mathlib.Core.List.{List, [], _∷_}
 use Prim.Native.Nat.{ℕ, suc, _+_, _-_, _%_, _≤_, _<_}
 use native.Mathlib.Omega.{arith}
 use lib.Dec.{ltb, eqb}
 use lib.ListN.{length, take, drop, length-drop, take-append-drop}
-use borrow.Author.Tests.{eq-eqb, eqb-true, eqb-false, ltb-true}
+use borrow.Author.Tests.{eq-eqb, eqb-true, ltb-true}
 use Rattle.counting.specs.Tests.{pick, all}
-use Rattle.counting.proofs.Booleans.{and-right, and-both, and-three, by-test}
+use Rattle.counting.proofs.Booleans.{and-right, and-both, and-three}
 use Rattle.counting.proofs.Membership.{all-each, each-all, all-getD}
-use Rattle.frames.specs.Frames.{orElse, unless, linesOf, endsWhole, isDigit, isFrame, isWholeFile, hexAt, kindOf, Form, isFrameOf, restLines, lastLine, bodyLines, hasBody, countAgrees, bodiesFit, shapeFault, pairIn, pairsIn}
-use Rattle.frames.specs.Lines.{isPlain, LineAt}
-use Rattle.frames.specs.Shape.{bodiesOf, firstKind, lastKind, headerFault, beforeLast, bodyFault, HeaderAnswer, BodyAnswer, Shaped, ShapeAnswer}
+use Rattle.frames.specs.Frames.{unless, linesOf, endsWhole, isDigit, isFrame, isWholeFile, hexAt, kindOf, Form, isFrameOf, restLines, lastLine, bodyLines, bodiesFit, shapeFault, pairIn, pairsIn}
+use Rattle.frames.specs.Questions.{ask, firstNo}
+use Rattle.frames.specs.Lines.{isPlain, lineAfter, LineAt}
+use Rattle.frames.specs.Shape.{bodiesOf, firstKind, lastKind, headerQuestions, headerFault, bodyQuestions, bodyFault, shapeQuestions, sizedQuestions, HeaderAnswer, BodyAnswer, Shaped, ShapeAnswer}
 use Rattle.frames.proofs.LinePlaces.{all-take, all-drop, all-append}
 use Rattle.frames.proofs.HexNumbers.{hex-small}
-use Rattle.frames.proofs.Questions.{or-stop, or-go, or-assoc, or-none, unless-none}
+use Rattle.frames.proofs.Questions.{chain-first, first-stop, first-go, first-none, accepted, answered-none, answered-refused}
 use Rattle.frames.proofs.BodyFrames.{frame-length, first-kind, last-kind, fit-bodies, fit-runs}
-use Rattle.frames.proofs.HeaderFrames.{rest-lines, past-short, past-whole}
+use Rattle.frames.proofs.HeaderFrames.{rest-lines, past-short, past-whole, header-line, second-line}
 
--- THE CHAIN
-module _ (k : Form) (f : List ℕ) where
-  pub shape-chain : (z : Bool) → shapeFault k f z ≡ orElse (headerFault k f) (orElse (unless z 5) (bodyFault k (restLines f)))
-  shape-chain z = simp or-assoc
+-- THE QUESTIONS as a list
+pub shape-asked : (k : Form) (f : List ℕ) (z : Bool) → shapeFault k f z ≡ firstNo (shapeQuestions k f z)
+shape-asked k f z = chain-first (shapeQuestions k f z) refl
 
-  pub fits-free : (z y : Bool) → (headerFault k f ≡ 0 → z ≡ y) → shapeFault k f z ≡ shapeFault k f y
-  fits-free z y e =
-      by-test (eqb (headerFault k f) 0)
-      (λ t. ap (shapeFault k f) (e (eqb-true _ _ t)))
-      (λ t.
-      let n = eqb-false _ _ t in
-      shape-chain z ∙ or-stop (headerFault k f) _ n ∙ sym (shape-chain y ∙ or-stop (headerFault k f) _ n))
+module _ {k : Form} {f : List ℕ} {n next : ℕ} (a : HeaderAnswer k f n next) (z : Bool) where
+  pub shape-header : n ≢ 0 → n ≡ shapeFault k f z
+  shape-header h = a .says ∙ sym (shape-asked k f z ∙ first-stop (headerQuestions k f) (ask 5 z ∷ bodyQuestions k (restLines f)) (λ q. h (a .says ∙ q)))
+
+  module _ (e : n ≡ 0) where
+    past-header : shapeFault k f z ≡ pick z (bodyFault k (restLines f)) 5
+    past-header = shape-asked k f z ∙ first-go (headerQuestions k f) (ask 5 z ∷ bodyQuestions k (restLines f)) refl (sym (a .says) ∙ e)
+
+    pub shape-five : z ≡ false → 5 ≡ shapeFault k f z
+    shape-five y = sym (past-header ∙ rw y)
+
+    pub shape-body : {m count firsts : ℕ} → z ≡ true → BodyAnswer k (drop next f) m count firsts → m ≡ shapeFault k f z
+    shape-body y b = b .says ∙ ap (bodyFault k) (sym (rest-lines f (2 + k .headerSize) next (second-line a e))) ∙ sym (past-header ∙ rw y)
+
+-- WITH QUESTION 8
+module _ (k : Form) (f : List ℕ) (z e : Bool) where
+  pub sized-shape : {n : ℕ} → n ≡ shapeFault k f z → n ≢ 0 → n ≡ firstNo (sizedQuestions k f z e)
+  sized-shape q h =
+      let r = q ∙ shape-asked k f z in r ∙ sym (first-stop (shapeQuestions k f z) (ask 8 e ∷ []) (λ y. h (r ∙ y)))
+
+  pub sized-eight : shapeFault k f z ≡ 0 → firstNo (sizedQuestions k f z e) ≡ unless e 8
+  sized-eight q = first-go (shapeQuestions k f z) (ask 8 e ∷ []) refl (sym (shape-asked k f z) ∙ q)
 
 -- LINES OF DIGITS
 abbrev isDigits : List ℕ → Bool
@@ -71,29 +88,19 @@ pairs-few k (l ∷ ls) = go (eqb (kindOf l) k) (pairs-few k ls)
     go false h = omega arith
 
 -- PAST ALL OF THEM
-module _ (k : Form) (a b : ℕ) (q : k .bodies ≡ bodiesOf a b) (f : List ℕ) (next count firsts : ℕ) (h : headerFault k f ≡ 0)
-    (l : LineAt f 0 (2 + k .headerSize) next) (r : BodyAnswer k (drop next f) 0 count firsts) where
-  rest-is : restLines f ≡ linesOf (drop next f)
-  rest-is = rest-lines f (2 + k .headerSize) next l
-
-  body-none : bodyFault k (restLines f) ≡ 0
-  body-none = ap (bodyFault k) rest-is ∙ sym (r .says)
-
-  six-seven : (unless (hasBody k f) 6 ≡ 0) × (unless (countAgrees f) 7 ≡ 0)
-  six-seven = or-none (unless (hasBody k f) 6) (unless (countAgrees f) 7) body-none
+module _ (k : Form) (a b : ℕ) (q : k .bodies ≡ bodiesOf a b) (f : List ℕ) {next count firsts : ℕ} (h : headerFault k f ≡ 0)
+    (body-none : bodyFault k (restLines f) ≡ 0) (second : next ≡ lineAfter f 0) (count-is : count ≡ length (bodyLines f))
+    (first-counts : firsts ≡ length (pairsIn (firstKind k) (bodyLines f))) where
+  line-is : LineAt f 0 (2 + k .headerSize) next
+  line-is = rw second (header-line k f h)
 
   six : (ltb 0 (length (restLines f)) ≡ true) × (isFrameOf (k .end) 4 (lastLine f) ≡ true) × (bodiesFit (k .bodies) (k .bodySize) (bodyLines f) ≡ true)
   six =
       and-three (ltb 0 (length (restLines f))) (isFrameOf (k .end) 4 (lastLine f)) (bodiesFit (k .bodies) (k .bodySize) (bodyLines f))
-      (unless-none (hasBody k f) 5 (six-seven .0))
-
-  count-is : count ≡ length (bodyLines f)
-  count-is = r .counts refl ∙ ap (λ (ls : List (List ℕ)). length (beforeLast ls)) (sym rest-is)
+      (accepted 6 (bodyQuestions k (restLines f)) refl body-none)
 
   firsts-are : firsts ≡ length (pairsIn a (bodyLines f))
-  firsts-are =
-      let e : firstKind k ≡ a = rw q (first-kind a b) in
-      (rw e at (r .firstCounts refl)) ∙ ap (λ (ls : List (List ℕ)). length (pairsIn a (beforeLast ls))) (sym rest-is)
+  firsts-are = let e : firstKind k ≡ a = rw q (first-kind a b) in rw e at first-counts
 
   runs : (all (isFrameOf a (k .bodySize)) (take firsts (bodyLines f)) ≡ true) × (all (isFrameOf b (k .bodySize)) (drop firsts (bodyLines f)) ≡ true)
   runs =
@@ -110,7 +117,7 @@ module _ (k : Form) (a b : ℕ) (q : k .bodies ≡ bodiesOf a b) (f : List ℕ) 
   end-digits = all-getD isDigits (restLines f) [] (length (restLines f) - 1) (all-drop isDigits 1 (linesOf f) digits) (omega (arith, some))
 
   agrees : hexAt 2 4 (lastLine f) ≡ length (bodyLines f)
-  agrees = eqb-true _ _ (unless-none (countAgrees f) 6 (six-seven .1))
+  agrees = eqb-true _ _ (accepted 7 (bodyQuestions k (restLines f)) refl body-none)
 
   pub shaped : Shaped k f next count firsts
   shaped =
@@ -121,12 +128,12 @@ module _ (k : Form) (a b : ℕ) (q : k .bodies ≡ bodiesOf a b) (f : List ℕ) 
       let p = pairs-few a (bodyLines f) in
       record {
         short = past-short k f h;
-        header = l;
+        header = line-is;
         headerDigits = all-getD isDigits (linesOf f) [] 0 digits (omega (arith, some));
-        rest = rest-is;
+        rest = rest-lines f (2 + k .headerSize) next line-is;
         some = some;
         counts = count-is;
-        firstCounts = rw e firsts-are;
+        firstCounts = first-counts;
         few = omega (arith, count-is, agrees);
         firstFew = omega (arith, count-is, firsts-are);
         firstRun = rw e (runs .0);
@@ -138,25 +145,35 @@ module _ (k : Form) (a b : ℕ) (q : k .bodies ≡ bodiesOf a b) (f : List ℕ) 
         plainEnd = plain-frame (k .end) 4 (lastLine f) (six .1) end-digits;
       }
 
--- THE ANSWERS
-module _ (k : Form) (f : List ℕ) (z : Bool) where
-  pub answer-header : (n next : ℕ) → HeaderAnswer k f n next → (n ≡ 0 → ⊥) → ShapeAnswer k f z n 0 0 0
-  answer-header n next r h =
-      let e = r .says in
-      record { says = e ∙ sym (shape-chain k f z ∙ or-stop (headerFault k f) _ (λ q. h (e ∙ q))); shaped = λ q. absurd (h q) }
+pub read-shaped : {k : Form} {f : List ℕ} {n next m count firsts : ℕ} (a b : ℕ) → k .bodies ≡ bodiesOf a b → HeaderAnswer k f n next → n ≡ 0 →
+    BodyAnswer k (drop next f) m count firsts → m ≡ 0 → Shaped k f next count firsts
+read-shaped {k} {f} {next = next} a b q h e r z =
+    let l : linesOf (drop next f) ≡ restLines f = sym (rest-lines f (2 + k .headerSize) next (second-line h e)) in
+    shaped k a b q f (sym (h .says) ∙ e) (ap (bodyFault k) (sym l) ∙ sym (r .says) ∙ z) (h .second-line ∙ answered-none (lineAfter f 0) e)
+    (rw l at (r .counts ∙ answered-none _ z)) (rw l at (r .first-counts ∙ answered-none _ z))
 
-  module _ (h : headerFault k f ≡ 0) where
-    past-header : shapeFault k f z ≡ orElse (unless z 5) (bodyFault k (restLines f))
-    past-header = shape-chain k f z ∙ or-go (headerFault k f) _ h
+-- A FILE THAT HAS NO QUESTION 5
+pub no-shape : {k : Form} {f : List ℕ} {n x y z : ℕ} → n ≡ shapeFault k f true → n ≢ 0 → (x ≡ n) × (y ≡ 0) × (z ≡ 0) → ShapeAnswer k f x y z
+no-shape {f = f} {x = x} e h t =
+    let r : x ≢ 0 = λ q. h (sym (t .0) ∙ q) in
+    record {
+      says = t .0 ∙ e;
+      second-line = t .1 ∙ sym (answered-refused (lineAfter f 0) r);
+      counts = t .2 ∙ sym (answered-refused (length (bodyLines f)) r);
+    }
 
-    pub answer-five : z ≡ false → ShapeAnswer k f z 5 0 0 0
-    answer-five e = record { says = sym (past-header ∙ rw e); shaped = λ q. absurd (omega arith) }
+pub answer-shape : {k : Form} {f : List ℕ} {n next m count firsts : ℕ} → HeaderAnswer k f n next → n ≡ 0 → BodyAnswer k (drop next f) m count firsts →
+    m ≡ 0 → ShapeAnswer k f 0 next count
+answer-shape {k} {f} {next = next} h e r z =
+    let l : linesOf (drop next f) ≡ restLines f = sym (rest-lines f (2 + k .headerSize) next (second-line h e)) in
+    record {
+      says = sym z ∙ shape-body h true e refl r;
+      second-line = h .second-line ∙ answered-none (lineAfter f 0) e;
+      counts = rw l at (r .counts ∙ answered-none _ z);
+    }
 
-    pub answer-body : (a b next n count firsts : ℕ) → k .bodies ≡ bodiesOf a b → z ≡ true → LineAt f 0 (2 + k .headerSize) next →
-        BodyAnswer k (drop next f) n count firsts → ShapeAnswer k f z n next count firsts
-    answer-body a b next n count firsts q e l r =
-        let t = rest-lines f (2 + k .headerSize) next l in
-        record {
-          says = r .says ∙ ap (bodyFault k) (sym t) ∙ sym (past-header ∙ rw e);
-          shaped = λ o. shaped k a b q f next count firsts h l (rw o at r);
-        }
+pub answer-shaped : {k : Form} {f : List ℕ} {n next count : ℕ} (a b : ℕ) → k .bodies ≡ bodiesOf a b → ShapeAnswer k f n next count → n ≡ 0 →
+    Shaped k f next count (length (pairsIn (firstKind k) (bodyLines f)))
+answer-shaped {k} {f} a b q s e =
+    let r = first-none (headerQuestions k f) (bodyQuestions k (restLines f)) refl (sym (shape-asked k f true) ∙ sym (s .says) ∙ e) in
+    shaped k a b q f (r .0) (r .1) (s .second-line ∙ answered-none (lineAfter f 0) e) (s .counts ∙ answered-none (length (bodyLines f)) e) refl

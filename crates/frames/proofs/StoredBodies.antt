@@ -4,6 +4,7 @@
 --   body-few                        how many body lines there are at most, by the file's length
 --   only-run, only-size             a body of one kind: its run is the body, as long as the end frame says
 --   only-pairs, only-numbers        what is stored of it is what document 03 reads
+--   only-count                      and as many pairs
 --   first-run, first-size, first-pairs       a body of two kinds: the run at the front is the lines of the first kind
 --   second-run, second-size, second-pairs    and the run where that one stops is the lines of the second
 use mathlib.Core.Path.{_≡_, ap, sym, _∙_}
@@ -17,6 +18,7 @@ use lib.ListN.{length, take, drop, length-append, length-drop, take-append-drop}
 use lib.Seq.{length-take-le}
 use borrow.Author.Tests.{eqb-true, le-leb}
 use Rattle.counting.specs.Tests.{all}
+use Rattle.counting.specs.Pairs.{Pair}
 use Rattle.counting.proofs.Booleans.{and-left, and-right, and-both}
 use Rattle.counting.proofs.Membership.{all-each, each-all}
 use Rattle.frames.specs.Frames.{linesOf, isDigit, Form, lastLine, bodyLines, restLines, pairsIn, numbersIn}
@@ -26,7 +28,7 @@ use Rattle.frames.specs.Stores.{hasKind, runOf, pastRun, runAt, isLong, 
 use Rattle.frames.proofs.LinePlaces.{all-append}
 use Rattle.frames.proofs.BodyFrames.{split-last}
 use Rattle.frames.proofs.LineCounts.{long-few}
-use Rattle.frames.proofs.Runs.{other-kind, frames-kind, run-only, run-first, run-second, pairs-first, pairs-second}
+use Rattle.frames.proofs.Runs.{other-kind, frames-kind, run-only, run-first, run-second, run-pairs, pairs-first, pairs-second}
 
 plain-long : (n m : ℕ) (l : List ℕ) → n ≤ m → isPlain m l ≡ true → isLong n l ≡ true
 plain-long n m l h p =
@@ -80,6 +82,9 @@ module _ {form : Form} {f : List ℕ} {next count firsts : ℕ} (s : Shaped form
 
     pub only-pairs : pairsIn k (runAt k f next) ≡ pairsIn k (bodyLines f)
     only-pairs = ap (pairsIn k) only-run
+
+    pub only-count : length (pairsIn k (bodyLines f)) ≡ count
+    only-count = ap (λ (xs : List Pair). length xs) (sym only-pairs) ∙ run-pairs k (linesOf (drop next f)) ∙ only-size
 
     pub only-numbers : numbersIn (runAt k f next) ≡ numbersIn (bodyLines f)
     only-numbers = ap numbersIn only-run

@@ -8,30 +8,31 @@
 --   passing-room                     an element is left for a line of the run
 --   passing-on, filling-on           past a line of the kind
 --   stopped-other, stopped-over      a line of another kind, or no line, stops the run
+--   numbers-length                   as many numbers as lines
 --   stored-pairs, stored-numbers     what is stored then
+--   stored-as                        by the pairs that the run says
 --   storable-next                    the lines past a run can be stored too
-use mathlib.Core.Path.{_≡_, refl, ap, sym, _∙_}
+use mathlib.Core.Path.{_≡_, refl, ap, subst, sym, _∙_}
 use mathlib.Core.Logic.{_≢_}
 use mathlib.Core.Bool.{true, false}
-use mathlib.Core.List.{List, [], _∷_, _++_, map}
+use mathlib.Core.List.{List, [], _∷_, map}
 use Prim.Native.Nat.{ℕ, _+_, _≤_, _<_}
 use native.Mathlib.Nat.{add-zero}
 use native.Mathlib.Numerals.{add-one}
 use native.Mathlib.Omega.{arith}
 use lib.Dec.{leb}
-use lib.ListN.{length, take, drop, set, length-map, length-set, drop-of-length-le}
-use lib.Seq.{sets, take-at, drop-at}
+use lib.ListN.{length, drop, set, length-map, length-set, drop-of-length-le}
+use lib.Seq.{sets}
 use borrow.Author.Tests.{eq-eqb, ne-eqb, leb-true}
 use Rattle.counting.specs.Tests.{all}
-use Rattle.counting.specs.Pairs.{zipPairs}
+use Rattle.counting.specs.Pairs.{Pair, firstsOf, secondsOf}
 use Rattle.counting.proofs.Booleans.{and-left, and-right, by-test}
 use Rattle.frames.specs.Frames.{linesOf, isDigit, hexAt, kindOf, pairsIn, numbersIn}
-use Rattle.frames.specs.Lines.{part, LineAt}
-use Rattle.frames.specs.Stores.{hasKind, runOf, pastRun, runAt, isLong, Storable, Passed, StoredPairs, StoredNumbers}
-use Rattle.frames.proofs.LinePlaces.{lines-here, part-length}
+use Rattle.frames.specs.Lines.{part, lineAfter, pastLines, LineAt}
+use Rattle.frames.specs.Stores.{hasKind, runOf, pastRun, runAt, isLong, Storable, Passed, PairsStored, StoredPairs, StoredNumbers}
+use Rattle.frames.proofs.LinePlaces.{lines-here, line-after, part-length}
 use Rattle.frames.proofs.HexNumbers.{hex-part, hex-small-part}
-use Rattle.frames.proofs.Writes.{sets-over}
-use Rattle.frames.proofs.Runs.{run-kept, past-kept, run-none, past-none, run-nil, past-nil, past-each}
+use Rattle.frames.proofs.Runs.{run-kept, past-kept, run-none, past-none, run-nil, past-nil, past-each, run-pairs}
 
 abbrev pub column : (from size : ℕ) → List (List ℕ) → List ℕ
 column i n ls = map (hexAt i n) ls
@@ -39,6 +40,7 @@ column i n ls = map (hexAt i n) ls
 pub record Passing (kind : ℕ) (g : List ℕ) (at i n : ℕ) : Type 0 where
   pub left : Storable g i
   pub counts : n + length (runAt kind g i) ≡ length (runAt kind g at)
+  pub place : pastLines (length (runAt kind g i)) g i ≡ pastLines (length (runAt kind g at)) g at
   pub rest : pastRun kind (linesOf (drop i g)) ≡ pastRun kind (linesOf (drop at g))
   pub low : at ≤ i
 
@@ -100,11 +102,16 @@ module _ {kind : ℕ} {g : List ℕ} {at i end next n : ℕ} (h : LineAt g i end
     pub passing-room : n < length (runAt kind g at)
     passing-room = omega (arith, p .counts, ap length run-here)
 
+    place-on : pastLines (length (runAt kind g next)) g (lineAfter g i) ≡ pastLines (length (runAt kind g i)) g i
+    unfolding pastLines
+    place-on = sym (ap (λ (ls : List (List ℕ)). pastLines (length ls) g i) run-here)
+
     pub passing-on : Passing kind g at next (n + 1)
     passing-on =
         record {
           left = record { inside = h .high; long = beyond };
           counts = omega (arith, p .counts, ap length run-here);
+          place = ap (pastLines (length (runAt kind g next)) g) (line-after h) ∙ place-on ∙ p .place;
           rest =
               sym (past-kept kind (part i end g) (linesOf (drop next g)) of-kind) ∙
               ap (pastRun kind) (sym (lines-here g i end next h)) ∙ p .rest;
@@ -132,51 +139,67 @@ unfolding numbersIn
 column-numbers [] = refl
 column-numbers (l ∷ ls) = ap (λ (xs : List ℕ). hexAt 2 4 l ∷ xs) (column-numbers ls)
 
-column-pairs : (kind : ℕ) (ls : List (List ℕ)) → pairsIn kind (runOf kind ls) ≡ zipPairs (column 2 2 (runOf kind ls)) (column 4 2 (runOf kind ls))
-unfolding runOf pairsIn zipPairs
-column-pairs kind [] = refl
-column-pairs kind (l ∷ ls) = by-test (hasKind kind l) (λ e. rw (e, e, column-pairs kind ls)) (λ e. rw e)
+pub numbers-length : (ls : List (List ℕ)) → length (numbersIn ls) ≡ length ls
+numbers-length ls = rw (column-numbers ls) (length-map ls (hexAt 2 4))
+
+column-firsts : (kind : ℕ) (ls : List (List ℕ)) → firstsOf (pairsIn kind (runOf kind ls)) ≡ column 2 2 (runOf kind ls)
+unfolding runOf pairsIn firstsOf
+column-firsts kind [] = refl
+column-firsts kind (l ∷ ls) = by-test (hasKind kind l) (λ e. rw (e, e, column-firsts kind ls)) (λ e. rw e)
+
+column-seconds : (kind : ℕ) (ls : List (List ℕ)) → secondsOf (pairsIn kind (runOf kind ls)) ≡ column 4 2 (runOf kind ls)
+unfolding runOf pairsIn secondsOf
+column-seconds kind [] = refl
+column-seconds kind (l ∷ ls) = by-test (hasKind kind l) (λ e. rw (e, e, column-seconds kind ls)) (λ e. rw e)
 
 module _ {kind : ℕ} {g : List ℕ} {at i n : ℕ} (p : Passing kind g at i n) (stop : Stopped kind g i) where
+  all-counted : n ≡ length (runAt kind g at)
+  all-counted = omega (arith, p .counts, ap length (stop .0))
+
   all-passed : Passed kind g at n i
+  unfolding pastLines
   all-passed =
       record {
-        counts = omega (arith, p .counts, ap length (stop .0));
+        counts = all-counted;
+        place = rw all-counted (rw (stop .0) at (p .place));
         rest = sym (stop .1) ∙ p .rest;
         low = p .low;
         high = p .left .inside;
       }
 
-  module _ {from size : ℕ} {before slice : List ℕ} (s : Filling from size kind g at i n before slice)
-      (room : length (runAt kind g at) ≤ length before) where
-    size-stored : length (column from size (runAt kind g at)) ≡ n
-    size-stored = length-map (runAt kind g at) (hexAt from size) ∙ sym (all-passed .counts)
-
-    whole-stored : slice ≡ column from size (runAt kind g at) ++ drop n before
-    whole-stored =
-        let e = rw (stop .0) at (s .filled) in
-        e ∙ sets-over (column from size (runAt kind g at)) before (omega (arith, size-stored, all-passed .counts)) ∙ rw size-stored
-
-    column-stored : take n slice ≡ column from size (runAt kind g at)
-    column-stored = rw whole-stored (take-at (column from size (runAt kind g at)) (drop n before) n size-stored)
-
-    column-kept : drop n slice ≡ drop n before
-    column-kept = rw whole-stored (drop-at (column from size (runAt kind g at)) (drop n before) n size-stored)
+  all-filled : {from size : ℕ} {before slice : List ℕ} → Filling from size kind g at i n before slice → slice ≡ sets before 0 (column from size (runAt kind g at))
+  all-filled s = rw (stop .0) at (s .filled)
 
   pub stored-pairs : {firsts seconds a b : List ℕ} → Filling 2 2 kind g at i n firsts a → Filling 4 2 kind g at i n seconds b →
       length (runAt kind g at) ≤ length firsts → length (runAt kind g at) ≤ length seconds → StoredPairs kind g at firsts seconds a b n i
   stored-pairs s t u v =
+      let l = run-pairs kind (linesOf (drop at g)) in
       record {
         passed = all-passed;
-        pairs = rw (column-stored s u, column-stored t v) (sym (column-pairs kind (linesOf (drop at g))));
-        firstsKept = column-kept s u;
-        secondsKept = column-kept t v;
+        pairs =
+            record {
+              first-room = rw l u;
+              second-room = rw l v;
+              firsts-are = rw (column-firsts kind (linesOf (drop at g))) (all-filled s);
+              seconds-are = rw (column-seconds kind (linesOf (drop at g))) (all-filled t);
+            };
       }
 
   pub stored-numbers : {out a : List ℕ} → Filling 2 4 kind g at i n out a → length (runAt kind g at) ≤ length out →
       StoredNumbers kind g at out a n i
   stored-numbers s u =
-      record { passed = all-passed; numbers = column-stored s u ∙ sym (column-numbers (runAt kind g at)); kept = column-kept s u }
+      let e = column-numbers (runAt kind g at) in
+      record {
+        passed = all-passed;
+        numbers = record { room = rw (numbers-length (runAt kind g at)) u; numbers-are = rw e (all-filled s) };
+      }
+
+pub stored-as : {kind : ℕ} {g : List ℕ} {at : ℕ} {us vs us' vs' : List ℕ} {n turn : ℕ} (xs : List Pair) →
+    StoredPairs kind g at us vs us' vs' n turn → pairsIn kind (runAt kind g at) ≡ xs → (n ≡ length xs) × PairsStored xs us vs us' vs'
+stored-as {kind} {g} {at} {us} {vs} {us'} {vs'} xs s e = (
+  s .passed .counts ∙ sym (run-pairs kind (linesOf (drop at g))) ∙ ap (λ (ys : List Pair). length ys) e,
+  subst (λ (ys : List Pair). PairsStored ys us vs us' vs') e (s .pairs),
+)
 
 pub storable-next : {kind : ℕ} {g : List ℕ} {at count next : ℕ} → Storable g at → Passed kind g at count next → Storable g next
 storable-next {kind} {g} {at} s p =

@@ -3,7 +3,7 @@
 --   written-rest, written-then          the same of what two calls wrote
 --   written-over                        the same of a text written at the front
 --   hexBytes-length, hexBytes-split     digits: how many; four are the upper two and the lower two
---   frame4-length, frame6-length, frameOf4-length      how many bytes a frame takes
+--   frame4-length, frame6-length, frameOf4-length    how many bytes a frame takes
 --   hex2-written, hex4-written          two digits as two stores; four as two writes
 --   text-step, text-written             a text written byte by byte
 --   barrierLine-frame                   the fixed bytes of the first line of a barrier are its frame
@@ -84,6 +84,6 @@ pub text-written : (l m : List ℕ) (at i : ℕ) (text : List ℕ) → i ≡ len
 text-written l m at i text h e =
     record { bytes = rw (drop-of-length-le text {i = i} (omega arith)) at e; full = refl; place = omega arith }
 
-pub barrierLine-frame : barrierLine ≡ frame2 49
+pub barrierLine-frame : barrierLine ≡ frame2 0x31
 unfolding hexBytes
 barrierLine-frame = refl

@@ -86,16 +86,16 @@ pub record Form : Type 0 where
   pub end : ℕ
 
 abbrev pub graphForm : Form
-graphForm = record { header = 1; headerSize = 4; bodies = 2 ∷ []; bodySize = 4; end = 15 }
+graphForm = record { header = 0x01; headerSize = 4; bodies = 0x02 ∷ []; bodySize = 4; end = 0x0F }
 
 abbrev pub stockForm : Form
-stockForm = record { header = 17; headerSize = 2; bodies = 18 ∷ 19 ∷ []; bodySize = 4; end = 31 }
+stockForm = record { header = 0x11; headerSize = 2; bodies = 0x12 ∷ 0x13 ∷ []; bodySize = 4; end = 0x1F }
 
 abbrev pub pathForm : Form
-pathForm = record { header = 33; headerSize = 0; bodies = 34 ∷ []; bodySize = 4; end = 47 }
+pathForm = record { header = 0x21; headerSize = 0; bodies = 0x22 ∷ []; bodySize = 4; end = 0x2F }
 
 abbrev pub barrierForm : Form
-barrierForm = record { header = 49; headerSize = 0; bodies = 50 ∷ []; bodySize = 4; end = 63 }
+barrierForm = record { header = 0x31; headerSize = 0; bodies = 0x32 ∷ []; bodySize = 4; end = 0x3F }
 
 abbrev pub isFrameOf : (kind size : ℕ) → List ℕ → Bool
 isFrameOf k n l = eqb (kindOf l) k && eqb (length l) (2 + n)

@@ -3,11 +3,13 @@
 --   lineLength s           how many bytes stand before the first line end of s
 --   part i e f             the bytes of f from i up to, not including, e
 --   isPlain n l            the line l is n digits
+--   lineAfter f at         where the line behind the one at a place begins
+--   pastLines n f at       where the line n lines further begins
 --   LineAt f at end next   the line of f that begins at `at` ends before `end`, and what follows its line end begins at `next`
 use mathlib.Core.Path.{_≡_}
 use mathlib.Core.Bool.{Bool, _&&_}
 use mathlib.Core.List.{List, [], _∷_}
-use Prim.Native.Nat.{ℕ, suc, _+_, _-_, _<_, _≤_}
+use Prim.Native.Nat.{ℕ, zero, suc, _+_, _-_, _<_, _≤_}
 use lib.Dec.{eqb, ltb}
 use lib.ListN.{length, take, drop}
 use Rattle.counting.specs.Tests.{pick, all}
@@ -26,6 +28,13 @@ part i e f = take (e - i) (drop i f)
 
 abbrev pub isPlain : (size : ℕ) → List ℕ → Bool
 isPlain n l = eqb (length l) n && all isDigit l
+
+abbrev pub lineAfter : (f : List ℕ) → (at : ℕ) → ℕ
+lineAfter f at = at + lineLength (drop at f) + lineEnd (drop (at + lineLength (drop at f)) f)
+
+unfoldable pub pastLines : (count : ℕ) → (f : List ℕ) → (at : ℕ) → ℕ
+pastLines zero f at = at
+pastLines (suc n) f at = pastLines n f (lineAfter f at)
 
 pub record LineAt (f : List ℕ) (at end next : ℕ) : Type 0 where
   pub inside : at < length f

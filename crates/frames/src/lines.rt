@@ -7,7 +7,7 @@ ghost use Rattle.frames.specs.Frames.{isWholeFile};
 ghost use Rattle.frames.specs.Lines.{lineEnd, LineAt};
 
 // How many bytes the line end takes that stands at `at`; 0 where none stands there.
-pub fn line_end(f: &[u8], at: usize) -> usize
+fn line_end(f: &[u8], at: usize) -> usize
     ensures { λ r. ⌜ r ≡ lineEnd (drop at (now (f .entry))) ⌝ }
 {
     if f.len() <= at {
@@ -20,17 +20,18 @@ pub fn line_end(f: &[u8], at: usize) -> usize
 }
 
 // A line: where its bytes end, and where what follows its line end begins.
-pub struct Line {
-    pub end: usize,
-    pub next: usize,
+pub(crate) struct Line {
+    pub(crate) end: usize,
+    pub(crate) next: usize,
 }
 
 // The line that begins at `from`.
-pub fn line_at(f: &[u8], from: usize) -> Line
+pub(crate) fn line_at(f: &[u8], from: usize) -> Line
     requires { ⌜ from < length (now f) ⌝ }
     ensures { λ r. ⌜ LineAt (now (f .entry)) from (r .end) (r .next) ⌝ }
 {
     let mut end = from;
+    // invariant: proofs/LinePlaces SameLine; falls: bytes left
     while end < f.len() {
         let n = line_end(f, end);
         if n != 0 {
@@ -43,13 +44,15 @@ pub fn line_at(f: &[u8], from: usize) -> Line
 
 // Question 3: is the file made of whole lines, each a positive even number of digits? Each byte is looked at once; `at` is where the
 // first line begins that is not known to be whole.
-pub fn whole(f: &[u8]) -> bool
+pub(crate) fn whole(f: &[u8]) -> bool
     ensures { λ r. ⌜ r ≡ isWholeFile (now (f .entry)) ⌝ }
 {
     let mut at: usize = 0;
+    // invariant: specs/Frames isWholeFile, of the file and of what is left; falls: bytes left
     'lines: while at < f.len() {
         let mut i = at;
         let mut n: usize = 0;
+        // invariant: proofs/WholeFiles DigitsUpTo; falls: bytes left, and 1 until the line end is found
         while n == 0 {
             if digit_at(f, i) {
                 i += 1;

@@ -6,7 +6,7 @@ ghost use Rattle.frames.specs.Frames.{isDigit};
 ghost use Rattle.frames.specs.Numbers.{DigitValue, NumberAt};
 
 // Does a digit, 0 to 9 or A to F, stand at `at`? Past the file's end none does.
-pub fn digit_at(f: &[u8], at: usize) -> bool
+pub(crate) fn digit_at(f: &[u8], at: usize) -> bool
     ensures { λ r. ⌜ r ≡ isDigit (getD (now (f .entry)) at 0) ⌝ }
 {
     if f.len() <= at {
@@ -45,7 +45,7 @@ pub fn hex2(f: &[u8], at: usize) -> usize
 }
 
 // The number of the four digits at `at`.
-pub fn hex4(f: &[u8], at: usize) -> usize
+pub(crate) fn hex4(f: &[u8], at: usize) -> usize
     requires { ⌜ at + 4 ≤ length (now f) ⌝ }
     ensures { λ r. ⌜ NumberAt (now (f .entry)) at 4 r ⌝ }
 {

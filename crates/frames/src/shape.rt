@@ -1,29 +1,29 @@
-// Questions 2 to 7: the shape of a file, the same for every kind of file.
+// Questions 2 to 4 and 6, 7: the shape of a file, the same for every kind of file. The header is read first, then the caller asks question 5 of its
+// numbers, then the body is read; a file that has no question 5 is read in one step.
 use crate::lines::line_at;
 use crate::lines::whole;
 use crate::numbers::hex2;
 use crate::numbers::hex4;
 ghost use mathlib.Core.Path.{_≡_};
-ghost use mathlib.Core.Bool.{true};
 ghost use Prim.Native.Nat.{_≤_};
-ghost use lib.ListN.{length};
+ghost use lib.ListN.{length, drop};
 ghost use Rattle.frames.specs.Frames.{isFrameOf, graphForm, stockForm, pathForm, barrierForm};
 ghost use Rattle.frames.specs.Lines.{part};
-ghost use Rattle.frames.specs.Shape.{formOf, endFault, HeaderAnswer, BodyAnswer, ShapeAnswer};
+ghost use Rattle.frames.specs.Shape.{formOf, endFault, Counted, HeaderAnswer, BodyAnswer, ShapeAnswer};
 
 // A kind of file: the header's kind and how many digits follow it, the kinds of its body lines (the same twice where there is one) and how
 // many digits follow each, and the end frame's kind.
-pub struct Layout {
-    pub header: usize,
-    pub header_size: usize,
-    pub first: usize,
-    pub second: usize,
-    pub body_size: usize,
-    pub end: usize,
+struct Layout {
+    header: usize,
+    header_size: usize,
+    first: usize,
+    second: usize,
+    body_size: usize,
+    end: usize,
 }
 
 // The files of document 01, "Frames".
-pub const GRAPH: Layout = Layout {
+const GRAPH: Layout = Layout {
     header: 0x01,
     header_size: 4,
     first: 0x02,
@@ -32,7 +32,7 @@ pub const GRAPH: Layout = Layout {
     end: 0x0F,
 };
 
-pub const STOCK: Layout = Layout {
+const STOCK: Layout = Layout {
     header: 0x11,
     header_size: 2,
     first: 0x12,
@@ -41,7 +41,7 @@ pub const STOCK: Layout = Layout {
     end: 0x1F,
 };
 
-pub const PATH: Layout = Layout {
+const PATH: Layout = Layout {
     header: 0x21,
     header_size: 0,
     first: 0x22,
@@ -50,7 +50,7 @@ pub const PATH: Layout = Layout {
     end: 0x2F,
 };
 
-pub const BARRIER: Layout = Layout {
+const BARRIER: Layout = Layout {
     header: 0x31,
     header_size: 0,
     first: 0x32,
@@ -88,14 +88,33 @@ fn end_fault(g: &[u8], at: usize, end: usize, kind: usize, count: usize) -> u8
     0
 }
 
-struct Body {
-    number: u8,
-    count: usize,
-    firsts: usize,
+// `number` is the first of questions 6 and 7 answered no, or 0; `count` body lines stand before the end frame, `firsts` of them of the first
+// kind. Beside a refusal both are 0.
+pub struct Body {
+    pub number: u8,
+    pub count: usize,
+    pub firsts: usize,
 }
 
-// Questions 6 and 7, in one pass over `g`, the file from its second line on: the first answered no, or 0; how many body lines stand before
-// the end frame, and how many of them are of the first kind.
+// The counts, or a refusal and no counts.
+fn told(number: u8, count: usize, firsts: usize) -> Body
+    ensures { λ r. ⌜ Counted number count firsts (r .number) (r .count) (r .firsts) ⌝ }
+{
+    if number != 0 {
+        return Body {
+            number,
+            count: 0,
+            firsts: 0,
+        };
+    }
+    Body {
+        number,
+        count,
+        firsts,
+    }
+}
+
+// Questions 6 and 7, in one pass over `g`, the file from its second line on.
 fn body_of(g: &[u8], layout: Layout) -> Body
     ensures { λ r. ⌜ BodyAnswer (formOf layout) (now (g .entry)) (r .number) (r .count) (r .firsts) ⌝ }
 {
@@ -106,18 +125,17 @@ fn body_of(g: &[u8], layout: Layout) -> Body
     let mut count: usize = 0;
     let mut firsts: usize = 0;
     let mut kind = first;
-    let mut number: u8 = 6;
+    // invariant: proofs/BodyFrames BodyLeft; falls: bytes left
     while at < g.len() {
         let l = line_at(g, at);
         let end = l.end;
         let next = l.next;
         if next == g.len() {
-            number = end_fault(g, at, end, layout.end, count);
-            break;
+            return told(end_fault(g, at, end, layout.end, count), count, firsts);
         }
         if !is_frame(g, at, end, kind, size) {
             if !is_frame(g, at, end, second, size) {
-                break;
+                return told(6, 0, 0);
             }
             kind = second;
         }
@@ -127,19 +145,25 @@ fn body_of(g: &[u8], layout: Layout) -> Body
         }
         at = next;
     }
-    Body {
-        number,
-        count,
-        firsts,
-    }
+    told(6, 0, 0)
 }
 
-struct Header {
-    number: u8,
-    next: usize,
+// The body of a file whose second line begins at `next`: the slice from there on is handed to the one reader.
+fn body_from(f: &[u8], next: usize, layout: Layout) -> Body
+    requires { ⌜ next ≤ length (now f) ⌝ }
+    ensures { λ r. ⌜ BodyAnswer (formOf layout) (drop next (now (f .entry))) (r .number) (r .count) (r .firsts) ⌝ }
+{
+    let g = &f[next..];
+    body_of(g, layout)
 }
 
-// Questions 2, 3 and 4: the first answered no, or 0, and where the second line begins.
+// `number` is the first of questions 2, 3 and 4 answered no, or 0; `next` is where the second line begins, 0 beside a refusal.
+pub struct Header {
+    pub number: u8,
+    pub next: usize,
+}
+
+// Questions 2, 3 and 4.
 fn header_of(f: &[u8], layout: Layout) -> Header
     ensures { λ r. ⌜ HeaderAnswer (formOf layout) (now (f .entry)) (r .number) (r .next) ⌝ }
 {
@@ -162,72 +186,85 @@ fn header_of(f: &[u8], layout: Layout) -> Header
     }
 }
 
-// `number` is the first question answered no, or 0; `next` is where the second line begins; `count` body lines stand before the end frame,
-// `firsts` of them of the first kind. Where a question is answered no, only `number` is said.
+// The header of a graph file.
+pub fn graph_header(f: &[u8]) -> Header
+    ensures { λ r. ⌜ HeaderAnswer graphForm (now (f .entry)) (r .number) (r .next) ⌝ }
+{
+    header_of(f, GRAPH)
+}
+
+// The body of a graph file whose second line begins at `next`.
+pub fn graph_body(f: &[u8], next: usize) -> Body
+    requires { ⌜ next ≤ length (now f) ⌝ }
+    ensures { λ r. ⌜ BodyAnswer graphForm (drop next (now (f .entry))) (r .number) (r .count) (r .firsts) ⌝ }
+{
+    body_from(f, next, GRAPH)
+}
+
+// The header of a stock file.
+pub fn stock_header(f: &[u8]) -> Header
+    ensures { λ r. ⌜ HeaderAnswer stockForm (now (f .entry)) (r .number) (r .next) ⌝ }
+{
+    header_of(f, STOCK)
+}
+
+// The body of a stock file whose second line begins at `next`; its fits are the body lines of the first kind.
+pub fn stock_body(f: &[u8], next: usize) -> Body
+    requires { ⌜ next ≤ length (now f) ⌝ }
+    ensures { λ r. ⌜ BodyAnswer stockForm (drop next (now (f .entry))) (r .number) (r .count) (r .firsts) ⌝ }
+{
+    body_from(f, next, STOCK)
+}
+
+// Header and body of a file that has no question 5: the first of questions 2 to 4, 6 and 7 answered no, or 0; where the second line begins;
+// how many body lines stand before the end frame. Beside a refusal both are 0.
 pub struct Shape {
     pub number: u8,
     pub next: usize,
     pub count: usize,
-    pub firsts: usize,
 }
 
-// Questions 2 to 7, where `header_fits` is the answer to 5.
-pub fn shape_of(f: &[u8], layout: Layout, header_fits: bool) -> Shape
-    ensures { λ r. ⌜ ShapeAnswer (formOf layout) (now (f .entry)) «header_fits» (r .number) (r .next) (r .count) (r .firsts) ⌝ }
+fn no_shape(number: u8) -> Shape
+    ensures { λ r. ⌜ (r .number ≡ number) × (r .next ≡ 0) × (r .count ≡ 0) ⌝ }
+{
+    Shape {
+        number,
+        next: 0,
+        count: 0,
+    }
+}
+
+fn shape_of(f: &[u8], layout: Layout) -> Shape
+    ensures { λ r. ⌜ ShapeAnswer (formOf layout) (now (f .entry)) (r .number) (r .next) (r .count) ⌝ }
 {
     let h = header_of(f, layout);
     let number = h.number;
     if number != 0 {
-        return Shape {
-            number,
-            next: 0,
-            count: 0,
-            firsts: 0,
-        };
-    }
-    if !header_fits {
-        return Shape {
-            number: 5,
-            next: 0,
-            count: 0,
-            firsts: 0,
-        };
+        return no_shape(number);
     }
     let next = h.next;
-    let g = &f[next..];
-    let b = body_of(g, layout);
+    let b = body_from(f, next, layout);
+    let number = b.number;
+    if number != 0 {
+        return no_shape(number);
+    }
     Shape {
-        number: b.number,
+        number: 0,
         next,
         count: b.count,
-        firsts: b.firsts,
     }
 }
 
-// The shape of a graph file.
-pub fn graph_shape(f: &[u8], header_fits: bool) -> Shape
-    ensures { λ r. ⌜ ShapeAnswer graphForm (now (f .entry)) «header_fits» (r .number) (r .next) (r .count) (r .firsts) ⌝ }
-{
-    shape_of(f, GRAPH, header_fits)
-}
-
-// The shape of a stock file; its fits are the body lines of the first kind.
-pub fn stock_shape(f: &[u8], header_fits: bool) -> Shape
-    ensures { λ r. ⌜ ShapeAnswer stockForm (now (f .entry)) «header_fits» (r .number) (r .next) (r .count) (r .firsts) ⌝ }
-{
-    shape_of(f, STOCK, header_fits)
-}
-
-// The shape of a path certificate, which has no question 5.
+// The shape of a path certificate.
 pub fn path_shape(f: &[u8]) -> Shape
-    ensures { λ r. ⌜ ShapeAnswer pathForm (now (f .entry)) true (r .number) (r .next) (r .count) (r .firsts) ⌝ }
+    ensures { λ r. ⌜ ShapeAnswer pathForm (now (f .entry)) (r .number) (r .next) (r .count) ⌝ }
 {
-    shape_of(f, PATH, true)
+    shape_of(f, PATH)
 }
 
-// The shape of a barrier certificate, which has no question 5.
+// The shape of a barrier certificate.
 pub fn barrier_shape(f: &[u8]) -> Shape
-    ensures { λ r. ⌜ ShapeAnswer barrierForm (now (f .entry)) true (r .number) (r .next) (r .count) (r .firsts) ⌝ }
+    ensures { λ r. ⌜ ShapeAnswer barrierForm (now (f .entry)) (r .number) (r .next) (r .count) ⌝ }
 {
-    shape_of(f, BARRIER, true)
+    shape_of(f, BARRIER)
 }

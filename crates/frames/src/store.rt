@@ -21,6 +21,7 @@ pub fn store_pairs(g: &[u8], at: usize, kind: usize, firsts: &mut [u8], seconds:
 {
     let mut i = at;
     let mut n: usize = 0;
+    // invariant: proofs/Stores Passing, Filling; falls: bytes left
     while i < g.len() {
         let l = line_at(g, i);
         if hex2(g, i) != kind {
@@ -41,6 +42,7 @@ pub fn store_numbers(g: &[u8], at: usize, kind: usize, out: &mut [u16]) -> Run
 {
     let mut i = at;
     let mut n: usize = 0;
+    // invariant: proofs/Stores Passing, Filling; falls: bytes left
     while i < g.len() {
         let l = line_at(g, i);
         if hex2(g, i) != kind {

@@ -22,7 +22,7 @@ fn digit_byte(d: usize) -> u8
 }
 
 // The two lowest digits of `value`.
-pub fn put_hex2(out: &mut [u8], at: usize, value: usize) -> usize
+fn put_hex2(out: &mut [u8], at: usize, value: usize) -> usize
     requires { ⌜ at + 2 ≤ length (now out) ⌝ }
     ensures { λ r. ⌜ Written (now (out .entry)) at 2 (hexBytes 2 value) (now (out .exit)) r ⌝ }
 {
@@ -32,7 +32,7 @@ pub fn put_hex2(out: &mut [u8], at: usize, value: usize) -> usize
 }
 
 // The four lowest digits of `value`.
-pub fn put_hex4(out: &mut [u8], at: usize, value: usize) -> usize
+fn put_hex4(out: &mut [u8], at: usize, value: usize) -> usize
     requires { ⌜ at + 4 ≤ length (now out) ⌝ }
     ensures { λ r. ⌜ Written (now (out .entry)) at 4 (hexBytes 4 value) (now (out .exit)) r ⌝ }
 {
@@ -90,6 +90,7 @@ fn put_text(out: &mut [u8], at: usize, text: &[u8]) -> usize
     ensures { λ r. ⌜ Written (now (out .entry)) at (length (now (text .entry))) (now (text .entry)) (now (out .exit)) r ⌝ }
 {
     let mut i: usize = 0;
+    // invariant: Seq.sets, of the text and of what is left of it; falls: bytes of the text left
     while i < text.len() {
         out[at + i] = text[i];
         i += 1;
@@ -105,6 +106,7 @@ fn begins_with(f: &[u8], text: &[u8]) -> bool
         return false;
     }
     let mut i: usize = 0;
+    // invariant: specs/Writes beginsWith, of the text and of what is left; falls: bytes of the text left
     while i < text.len() {
         if f[i] != text[i] {
             return false;
@@ -116,7 +118,7 @@ fn begins_with(f: &[u8], text: &[u8]) -> bool
 
 pub fn put_barrier_line(out: &mut [u8], at: usize) -> usize
     requires { ⌜ at + 3 ≤ length (now out) ⌝ }
-    ensures { λ r. ⌜ Written (now (out .entry)) at 3 (frame2 49) (now (out .exit)) r ⌝ }
+    ensures { λ r. ⌜ Written (now (out .entry)) at 3 (frame2 0x31) (now (out .exit)) r ⌝ }
 {
     put_text(out, at, &BARRIER_LINE)
 }

@@ -7,11 +7,12 @@ use mathlib.Core.Bool.{true}
 use lib.Dec.{ltb}
 use borrow.Author.Tests.{ltb-true}
 use Rattle.counting.specs.Tests.{all}
+use Rattle.counting.specs.Pairs.{pairNamed}
 use Rattle.counting.proofs.Booleans.{and-right, and-both}
 use Rattle.counting.proofs.Membership.{all-each}
 use Rattle.matching.specs.Stock.{Stock, hasPair, noneShared, isPairing}
 use Rattle.matching.specs.Matching.{FitsBelow}
-use Rattle.matching.specs.Promise.{pairNamed, WellFormedStock, GreatestIs, MarksAre}
+use Rattle.matching.specs.Promise.{WellFormedStock, GreatestIs, MarksAre}
 use Rattle.matching.proofs.Rising.{rise-rising}
 use Rattle.matching.proofs.Greatest.{greatest-bound, greatest-pairing}
 use Rattle.matching.proofs.Marks.{mark-zero, mark-one}

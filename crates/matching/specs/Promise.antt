@@ -12,14 +12,11 @@ use mathlib.Core.Logic.{_↔_}
 use mathlib.Core.Bool.{Bool, true, false, _&&_, _||_}
 use mathlib.Core.List.{List}
 use Prim.Native.Nat.{ℕ, _≤_, _<_}
-use lib.Dec.{ltb, eqb}
+use lib.Dec.{eqb}
 use lib.ListN.{length}
 use Rattle.counting.specs.Tests.{all, any}
-use Rattle.counting.specs.Pairs.{Pair}
+use Rattle.counting.specs.Pairs.{Pair, pairNamed}
 use Rattle.matching.specs.Stock.{Stock, hasPair, noneShared, isIncluded, isPairing, greatest, markOf, pairsRise, isPlan}
-
-abbrev pub pairNamed : (cameras : ℕ) → Pair → Bool
-pairNamed n x = ltb (x .first) n && ltb (x .second) n
 
 pub record WellFormedStock (s : Stock) : Type 0 where
   pub named : all (pairNamed (s .cameras)) (s .fits) ≡ true

@@ -1,4 +1,4 @@
--- `lanes::answers::put_arcs` meets its contract: i lines are written.
+-- `files::answers::put_arcs` meets its contract: i lines are written.
 use Prim.Native.Nat.{ℕ, _-_}
 use lib.ListN.{length}
 use Rattle.frames.specs.Frames.{frameOf4}
@@ -10,7 +10,7 @@ use Rattle.files.proofs.answers.put_arcs.Tie as tie
 use borrow.Author.Needs.{needs}
 
 abbrev Inv-loop : tie.InvT-loop
-Inv-loop out₀ at arcs next₀ i₀ out next i = Writing (λ (i : ℕ) (x : ℕ). frameOf4 34 x) arcs out₀ at out next i
+Inv-loop out₀ at arcs next₀ i₀ out next i = Writing (λ (i : ℕ) (x : ℕ). frameOf4 0x22 x) arcs out₀ at out next i
 
 abbrev μ-loop : tie.MeasureT-loop
 μ-loop out₀ at arcs next₀ i₀ out next i = length arcs - i
@@ -41,7 +41,7 @@ same-length : tie.Need-same-length Inv-loop μ-loop
 same-length c = search needs
 
 returns : tie.Need-returns Inv-loop μ-loop
-returns c = writing-end (c .before .loop .inv) (λ i x. frameOf4-length 34 x) (c .loop-test .left)
+returns c = writing-end (c .before .loop .inv) (λ i x. frameOf4-length 0x22 x) (c .loop-test .left)
 
 pub put-arcs-spec : {M : Type 1} → statement M
 put-arcs-spec =

@@ -1,4 +1,4 @@
--- `lanes::answers::put_barrier` meets its contract: three parts, one behind the other.
+-- `files::answers::put_barrier` meets its contract: three parts, one behind the other.
 use native.Mathlib.Omega.{arith}
 use Rattle.files.proofs.AnswerLines.{class-lines, first-written}
 use borrow.Author.Needs.{needs}

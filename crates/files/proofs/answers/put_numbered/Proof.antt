@@ -1,4 +1,4 @@
--- `lanes::answers::put_numbered` meets its contract: i lines are written.
+-- `files::answers::put_numbered` meets its contract: i lines are written.
 use Prim.Native.Nat.{_-_}
 use native.Mathlib.Omega.{arith}
 use lib.ListN.{length}

@@ -1,4 +1,4 @@
--- `lanes::answers::put_pairs` meets its contract: i lines are written.
+-- `files::answers::put_pairs` meets its contract: i lines are written.
 use Prim.Native.Nat.{ℕ, _-_}
 use native.Mathlib.Omega.{arith}
 use lib.ListN.{length, getD}
@@ -11,7 +11,7 @@ use Rattle.files.proofs.answers.put_pairs.Statement.{statement}
 use Rattle.files.proofs.answers.put_pairs.Tie as tie
 
 abbrev Inv-loop : tie.InvT-loop
-Inv-loop out₀ at firsts seconds next₀ i₀ out next i = Writing (λ (i : ℕ) (x : ℕ). frame6 82 x (getD seconds i 0)) firsts out₀ at out next i
+Inv-loop out₀ at firsts seconds next₀ i₀ out next i = Writing (λ (i : ℕ) (x : ℕ). frame6 0x52 x (getD seconds i 0)) firsts out₀ at out next i
 
 abbrev μ-loop : tie.MeasureT-loop
 μ-loop out₀ at firsts seconds next₀ i₀ out next i = length firsts - i
@@ -48,7 +48,7 @@ same-length : tie.Need-same-length Inv-loop μ-loop
 same-length c = search needs
 
 returns : tie.Need-returns Inv-loop μ-loop
-returns c = writing-end (c .before .loop .inv) (λ i x. frame6-length 82 x _) (c .loop-test .left)
+returns c = writing-end (c .before .loop .inv) (λ i x. frame6-length 0x52 x _) (c .loop-test .left)
 
 pub put-pairs-spec : {M : Type 1} → statement M
 put-pairs-spec =

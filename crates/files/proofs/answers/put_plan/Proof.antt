@@ -1,4 +1,4 @@
--- `lanes::answers::put_plan` meets its contract: three parts, one behind the other.
+-- `files::answers::put_plan` meets its contract: three parts, one behind the other.
 use native.Mathlib.Omega.{arith}
 use Rattle.files.proofs.AnswerLines.{plan-text, first-written}
 use denote.Ref.{now}

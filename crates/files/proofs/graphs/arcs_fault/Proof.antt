@@ -1,18 +1,12 @@
--- `lanes::graphs::arcs_fault` meets its contract: one number for each question.
+-- `files::graphs::arcs_fault` meets its contract: one number for each question.
 use mathlib.Core.Path.{sym, _∙_}
 use borrow.Author.Tests.{not-true, not-false}
 use borrow.Author.Needs.{needs}
 use Rattle.files.proofs.graphs.arcs_fault.Statement.{statement}
 use Rattle.files.proofs.graphs.arcs_fault.Tie as tie
 
-are-named-requires : tie.Need-are-named-requires
-are-named-requires c κs = search needs
-
 returns : tie.Need-returns
 returns c = rw (sym (c .before .are-named .ensures) ∙ not-true _ (c .if1 .taken))
-
-are-mated-requires : tie.Need-are-mated-requires
-are-mated-requires c κs = search needs
 
 returns-2 : tie.Need-returns-2
 returns-2 c =
@@ -24,4 +18,4 @@ returns-3 c =
 
 pub arcs-fault-spec : {M : Type 1} → statement M
 arcs-fault-spec =
-    tie.close (tie.spec are-named-requires returns are-mated-requires returns-2 returns-3)
+    tie.close (tie.spec (λ c κs. search needs) returns (λ c κs. search needs) returns-2 returns-3)

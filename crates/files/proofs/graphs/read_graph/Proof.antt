@@ -1,83 +1,81 @@
--- `lanes::graphs::read_graph` meets its contract: one law for each way the questions end.
+-- `files::graphs::read_graph` meets its contract: one law for each way the questions end.
+use mathlib.Core.Path.{sym, _∙_}
 use native.Mathlib.Omega.{arith}
-use Rattle.files.proofs.GraphFiles.{graph-shape, graph-long, graph-odd, graph-many, graph-room, graph-read, no-graph-read}
+use borrow.Author.Tests.{not-true, not-false}
+use Rattle.files.proofs.GraphFiles.{GraphBody, graph-header, header-long, header-next, graph-five, graph-body, body-read, graph-odd, graph-many, graph-room, graph-holds, no-graph, graph-read}
 use borrow.Author.Needs.{needs}
 use Rattle.files.proofs.graphs.read_graph.Statement.{statement}
 use Rattle.files.proofs.graphs.read_graph.Tie as tie
 
-header-fits-requires : tie.Need-header-fits-requires
-header-fits-requires c κs = search needs
-
-graph-shape-requires : tie.Need-graph-shape-requires
-graph-shape-requires c κs = search needs
-
-no-graph-requires : tie.Need-no-graph-requires
-no-graph-requires c κs = search needs
+-- past questions 2 to 7
+body-at : (c : tie.Else3) →
+    GraphBody (c .before .before .before .before .before .before .before .before .before .before .before .args .f .now) (c .before .before .before .before .before .before .before .graph-header .result .next) (c .before .before .before .before .before .hex2 .result) (c .before .before .before .before .hex22 .result) (c .before .graph-body .result .count) (c .before .graph-body .result .firsts)
+body-at c =
+    body-read (c .before .before .before .before .before .before .before .graph-header .ensures) (c .before .before .before .before .before .before .if1 .left) (c .before .before .before .before .before .hex2 .ensures) (c .before .before .before .before .hex22 .ensures)
+    (sym (c .before .before .before .header-fits .ensures) ∙ not-false _ (c .before .before .if2 .left)) (c .before .graph-body .ensures) (c .if3 .left)
 
 returns : tie.Need-returns
-returns c =
-    no-graph-read (c .no-graph .ensures) (graph-shape (c .before .before .graph-shape .ensures) (c .before .before .before .header-fits .ensures) (c .before .if1 .taken)) (c .before .if1 .taken)
+returns c = no-graph (graph-header (c .before .before .graph-header .ensures) (c .before .if1 .taken)) (c .before .if1 .taken) (c .told .ensures)
 
-no-graph-requires-2 : tie.Need-no-graph-requires-2
-no-graph-requires-2 c κs = search needs
+hex2-requires : tie.Need-hex2-requires
+hex2-requires c κs = let l = header-long (c .before .graph-header .ensures) (c .if1 .left) in omega arith
+
+hex2-requires-2 : tie.Need-hex2-requires-2
+hex2-requires-2 c κs = let l = header-long (c .before .before .graph-header .ensures) (c .before .if1 .left) in omega arith
 
 returns-2 : tie.Need-returns-2
 returns-2 c =
-    no-graph-read (c .no-graph2 .ensures) (graph-odd (c .before .before .before .graph-shape .ensures) (c .before .before .before .before .header-fits .ensures) (c .before .before .if1 .left) (c .before .if2 .taken)) (λ q. omega arith)
+    no-graph (graph-five (c .before .before .before .before .before .before .graph-header .ensures) (c .before .before .before .before .before .if1 .left) (c .before .before .before .before .hex2 .ensures) (c .before .before .before .hex22 .ensures) (sym (c .before .before .header-fits .ensures) ∙ not-true _ (c .before .if2 .taken))) (λ q. omega arith) (c .told2 .ensures)
 
-no-graph-requires-3 : tie.Need-no-graph-requires-3
-no-graph-requires-3 c κs = search needs
+graph-body-requires : tie.Need-graph-body-requires
+graph-body-requires c κs = header-next (c .before .before .before .before .before .graph-header .ensures) (c .before .before .before .before .if1 .left)
 
 returns-3 : tie.Need-returns-3
 returns-3 c =
-    no-graph-read (c .no-graph3 .ensures) (graph-many (c .before .before .before .before .graph-shape .ensures) (c .before .before .before .before .before .header-fits .ensures) (c .before .before .before .if1 .left) (c .before .if3 .taken)) (λ q. omega arith)
-
-store-pairs-requires : tie.Need-store-pairs-requires
-store-pairs-requires c κs =
-    graph-room (c .before .before .before .before .before .graph-shape .ensures) (c .before .before .before .before .before .before .header-fits .ensures) (c .before .before .before .before .if1 .left) (c .before .before .before .if2 .left) (c .before .before .if3 .left) (c .before .before .before .before .before .before .before .before .before .before .pre)
-
-hex2-requires : tie.Need-hex2-requires
-hex2-requires c κs =
-    let l = graph-long (c .before .before .before .before .before .before .before .before .before .before .graph-shape .ensures) (c .before .before .before .before .before .before .before .before .before .before .before .header-fits .ensures) (c .before .before .before .before .before .before .before .before .before .if1 .left) in omega arith
-
-hex2-requires-2 : tie.Need-hex2-requires-2
-hex2-requires-2 c κs =
-    let l = graph-long (c .before .before .before .before .before .before .before .before .before .before .before .graph-shape .ensures) (c .before .before .before .before .before .before .before .before .before .before .before .before .header-fits .ensures) (c .before .before .before .before .before .before .before .before .before .before .if1 .left) in omega arith
-
-mul-arcs-fault : tie.Need-mul-arcs-fault
-mul-arcs-fault c = search needs
-
-arcs-fault-requires : tie.Need-arcs-fault-requires
-arcs-fault-requires c κs = search needs
-
-same-length : tie.Need-same-length
-same-length c = search needs
-
-same-length-2 : tie.Need-same-length-2
-same-length-2 c = search needs
+    no-graph (graph-body (c .before .before .before .before .before .before .before .before .graph-header .ensures) (c .before .before .before .before .before .before .before .if1 .left) (c .before .before .before .before .before .before .hex2 .ensures) (c .before .before .before .before .before .hex22 .ensures)
+    (sym (c .before .before .before .before .header-fits .ensures) ∙ not-false _ (c .before .before .before .if2 .left)) (c .before .before .graph-body .ensures) (c .before .if3 .taken))
+    (c .before .if3 .taken) (c .told3 .ensures)
 
 returns-4 : tie.Need-returns-4
-returns-4 c =
-    graph-read (c .before .before .before .before .before .before .before .before .before .before .before .before .before .before .before .graph-shape .ensures) (c .before .before .before .before .before .before .before .before .before .before .before .before .before .before .before .before .header-fits .ensures) (c .before .before .before .before .before .before .before .before .before .before .before .before .before .before .if1 .left) (c .before .before .before .before .before .before .before .before .before .before .before .before .before .if2 .left) (c .before .before .before .before .before .before .before .before .before .before .before .before .if3 .left) (c .before .before .before .before .before .before .before .before .before .before .before .before .before .before .before .before .before .before .before .before .pre)
-    (c .before .before .before .before .before .before .before .before .before .store-pairs .ensures) (c .before .before .before .before .before .before .before .before .tails .given) (c .before .before .before .before .before .before .heads .given) (c .before .before .before .before .hex2 .ensures) (c .before .before .before .hex22 .ensures) (c .arcs-fault .ensures)
+returns-4 c = no-graph (graph-odd (body-at (c .before .before)) (c .before .if4 .taken)) (λ q. omega arith) (c .told4 .ensures)
+
+returns-5 : tie.Need-returns-5
+returns-5 c = no-graph (graph-many (body-at (c .before .before .before)) (c .before .if5 .taken)) (λ q. omega arith) (c .told5 .ensures)
+
+store-pairs-requires : tie.Need-store-pairs-requires
+store-pairs-requires c κs = graph-room (body-at (c .before .before .before .before)) (c .before .before .if5 .left) (c .before .before .before .before .before .before .before .before .before .before .before .before .before .before .before .pre)
+
+arcs-fault-requires : tie.Need-arcs-fault-requires
+arcs-fault-requires c κs = graph-holds (body-at (c .before .before .before .before .before .before .before .before .before .before .before)) (c .before .before .before .before .before .before .store-pairs .ensures)
+
+returns-6 : tie.Need-returns-6
+returns-6 c =
+    graph-read (body-at (c .before .before .before .before .before .before .before .before .before .before .before .before .before)) (c .before .before .before .before .before .before .before .before .store-pairs .ensures) (c .before .before .before .before .before .before .before .before .before .before .before .before .if4 .left) (c .before .before .before .before .before .before .before .before .before .before .before .if5 .left)
+    (c .before .arcs-fault .ensures) (c .told6 .ensures)
 
 pub read-graph-spec : {M : Type 1} → statement M
 read-graph-spec =
     tie.close
     (tie.spec
-    header-fits-requires
-    graph-shape-requires
-    no-graph-requires
+    (λ c κs. search needs)
+    (λ c κs. search needs)
     returns
-    no-graph-requires-2
-    returns-2
-    no-graph-requires-3
-    returns-3
-    store-pairs-requires
     hex2-requires
     hex2-requires-2
-    mul-arcs-fault
+    (λ c κs. search needs)
+    (λ c κs. search needs)
+    returns-2
+    graph-body-requires
+    (λ c κs. search needs)
+    returns-3
+    (λ c κs. search needs)
+    returns-4
+    (λ c κs. search needs)
+    returns-5
+    store-pairs-requires
+    (λ c. search needs)
     arcs-fault-requires
-    same-length
-    same-length-2
-    returns-4)
+    (λ c κs. search needs)
+    (λ c. search needs)
+    (λ c. search needs)
+    returns-6)

@@ -1,11 +1,10 @@
--- `lanes::questions::are_named` meets its contract: what is asked of all pairs is what is asked from `i` on.
+-- `files::questions::are_named` meets its contract: what is asked of all pairs is what is asked from `i` on.
 use mathlib.Core.Path.{_≡_, refl, sym, _∙_}
 use Prim.Native.Nat.{_≤_, _-_}
 use native.Mathlib.Omega.{arith}
 use lib.ListN.{drop}
 use Rattle.counting.specs.Tests.{all}
-use Rattle.counting.specs.Pairs.{pairsOf}
-use Rattle.matching.specs.Promise.{pairNamed}
+use Rattle.counting.specs.Pairs.{pairsOf, pairNamed}
 use Rattle.files.proofs.PairScans.{all-end, named-step, named-first, named-second}
 use Rattle.files.proofs.questions.are_named.Statement.{statement}
 use Rattle.files.proofs.questions.are_named.Tie as tie

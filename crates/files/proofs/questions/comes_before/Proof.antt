@@ -1,4 +1,4 @@
--- `lanes::questions::comes_before` meets its contract.
+-- `files::questions::comes_before` meets its contract.
 use borrow.Author.Tests.{eq-eqb, ne-eqb, lt-ltb, le-ltb}
 use Rattle.files.proofs.questions.comes_before.Statement.{statement}
 use Rattle.files.proofs.questions.comes_before.Tie as tie

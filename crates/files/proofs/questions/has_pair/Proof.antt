@@ -1,4 +1,4 @@
--- `lanes::questions::has_pair` meets its contract: what is asked of the whole is what is asked from `i` on.
+-- `files::questions::has_pair` meets its contract: what is asked of the whole is what is asked from `i` on.
 use mathlib.Core.Path.{_≡_, refl, sym, _∙_}
 use Prim.Native.Nat.{_≤_, _-_}
 use native.Mathlib.Omega.{arith}

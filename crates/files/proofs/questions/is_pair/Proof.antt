@@ -1,4 +1,4 @@
--- `lanes::questions::is_pair` meets its contract.
+-- `files::questions::is_pair` meets its contract.
 use borrow.Author.Tests.{eq-eqb, ne-eqb}
 use Rattle.files.proofs.questions.is_pair.Statement.{statement}
 use Rattle.files.proofs.questions.is_pair.Tie as tie

@@ -1,4 +1,4 @@
--- `lanes::questions::mate_of` meets its contract.
+-- `files::questions::mate_of` meets its contract.
 use borrow.Author.Tests.{eq-eqb, ne-eqb}
 use borrow.Author.Needs.{needs}
 use Rattle.files.proofs.questions.mate_of.Statement.{statement}

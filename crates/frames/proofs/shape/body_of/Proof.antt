@@ -1,5 +1,5 @@
--- `frames::shape::body_of` meets its contract. The loop's invariant: what is left of both questions at `at`, and the answer is 6 until the
--- last line is read. The measure is what is left of the lines.
+-- `frames::shape::body_of` meets its contract. The loop's invariant: what is left of both questions at `at`. The measure is what is left of the
+-- lines.
 use mathlib.Core.Path.{_≡_, refl, sym, _∙_}
 use mathlib.Core.Logic.{⊎-elim}
 use Prim.Native.Nat.{ℕ, _-_, _+_}
@@ -10,14 +10,16 @@ use borrow.Author.Tests.{not-true, not-false}
 use Rattle.counting.specs.Tests.{pick}
 use Rattle.frames.specs.Shape.{formOf}
 use Rattle.frames.proofs.BodyFrames.{BodyLeft, left-start, left-stay, left-turn, first-more, first-same, answer-end, answer-fail, answer-over}
+use borrow.Author.Needs.{needs}
 use Rattle.frames.proofs.shape.body_of.Statement.{statement}
 use Rattle.frames.proofs.shape.body_of.Tie as tie
 
 abbrev Inv-loop : tie.InvT-loop
-Inv-loop g layout first second size at₀ count₀ firsts₀ kind₀ number₀ at count firsts kind number = (number ≡ 6) × BodyLeft (formOf layout) (layout .first) (layout .second) g at count firsts kind
+Inv-loop g layout first second size at₀ count₀ firsts₀ kind₀ at count firsts kind =
+    BodyLeft (formOf layout) (layout .first) (layout .second) g at count firsts kind
 
 abbrev μ-loop : tie.MeasureT-loop
-μ-loop g layout first second size at₀ count₀ firsts₀ kind₀ number₀ at count firsts kind number = length g - at
+μ-loop g layout first second size at₀ count₀ firsts₀ kind₀ at count firsts kind = length g - at
 
 -- past a body line, whichever kind it has
 next-line : (c : tie.Joined2 Inv-loop μ-loop) (m : ℕ) → m ≡ pick (eqb (c .if2 .kind) (c .before .before .before .before .before .before .before .args .layout .first)) 1 0 + c .before .before .before .before .before .loop .firsts →
@@ -25,7 +27,7 @@ next-line : (c : tie.Joined2 Inv-loop μ-loop) (m : ℕ) → m ≡ pick (eqb (c 
     (c .before .before .before .line-at .result .next) (c .before .before .before .before .before .loop .count + 1) m (c .if2 .kind)
 next-line c m e =
     let l = c .before .before .before .line-at .ensures in
-    let r = c .before .before .before .before .before .loop .inv .1 in
+    let r = c .before .before .before .before .before .loop .inv in
     ⊎-elim
     (λ w.
     rw (w .3)
@@ -35,49 +37,27 @@ next-line c m e =
     (c .if2 .came)
 
 loop-holds : tie.Need-loop-holds Inv-loop μ-loop
-loop-holds c = (refl, left-start _ _ _ _ refl)
-
-line-at-requires : tie.Need-line-at-requires Inv-loop μ-loop
-line-at-requires c κs = omega arith
-
-end-fault-requires : tie.Need-end-fault-requires Inv-loop μ-loop
-end-fault-requires c κs = (omega arith, omega arith)
-
-is-frame-requires : tie.Need-is-frame-requires Inv-loop μ-loop
-is-frame-requires c κs = (omega arith, omega arith)
-
-is-frame-requires-2 : tie.Need-is-frame-requires-2 Inv-loop μ-loop
-is-frame-requires-2 c κs = (omega arith, omega arith)
-
-add-count : tie.Need-add-count Inv-loop μ-loop
-add-count c = omega arith
-
-add-firsts : tie.Need-add-firsts Inv-loop μ-loop
-add-firsts c = omega arith
-
-loop-less : tie.Need-loop-less Inv-loop μ-loop
-loop-less c = omega arith
-
-loop-again : tie.Need-loop-again Inv-loop μ-loop
-loop-again c = (c .before .before .before .before .before .before .loop .inv .0, next-line (c .before) _ (first-more _ _ _ (c .if4 .taken)))
-
-loop-less-2 : tie.Need-loop-less-2 Inv-loop μ-loop
-loop-less-2 c = omega arith
-
-loop-again-2 : tie.Need-loop-again-2 Inv-loop μ-loop
-loop-again-2 c = (c .before .before .before .before .before .before .loop .inv .0, next-line (c .before) _ (first-same _ _ _ (c .if4 .left)))
+loop-holds c = left-start _ _ _ _ refl
 
 returns : tie.Need-returns Inv-loop μ-loop
-returns c = rw (c .before .loop .inv .0) (answer-over _ _ _ _ _ _ _ _ (c .before .loop .inv .1) (c .loop-test .left))
+returns c =
+    answer-end _ _ (c .before .before .before .before .before .loop .inv) (c .before .before .before .line-at .ensures) refl (c .before .before .if1 .taken)
+    (c .before .end-fault .ensures) (c .told .ensures)
 
 returns-2 : tie.Need-returns-2 Inv-loop μ-loop
-returns-2 c = answer-end _ _ _ _ _ _ _ _ _ _ (c .before .before .line-at .ensures) (c .before .before .before .before .loop .inv .1) _ refl (c .before .if1 .taken) (c .end-fault .ensures)
+returns-2 c =
+    answer-fail _ _ (c .before .before .before .before .before .before .before .before .loop .inv) (c .before .before .before .before .before .before .line-at .ensures) (omega arith)
+    (sym (c .before .before .before .before .is-frame .ensures) ∙ not-true _ (c .before .before .before .if2 .taken)) (sym (c .before .before .is-frame2 .ensures) ∙ not-true _ (c .before .if3 .taken))
+    (c .told2 .ensures)
+
+loop-again : tie.Need-loop-again Inv-loop μ-loop
+loop-again c = next-line (c .before) _ (first-more _ _ _ (c .if4 .taken))
+
+loop-again-2 : tie.Need-loop-again-2 Inv-loop μ-loop
+loop-again-2 c = next-line (c .before) _ (first-same _ _ _ (c .if4 .left))
 
 returns-3 : tie.Need-returns-3 Inv-loop μ-loop
-returns-3 c =
-    rw (c .before .before .before .before .before .before .before .loop .inv .0)
-    (answer-fail _ _ _ _ _ _ _ _ _ _ (c .before .before .before .before .before .line-at .ensures) (c .before .before .before .before .before .before .before .loop .inv .1) (omega arith)
-    (sym (c .before .before .before .is-frame .ensures) ∙ not-true _ (c .before .before .if2 .taken)) (sym (c .before .is-frame2 .ensures) ∙ not-true _ (c .if3 .taken)))
+returns-3 c = answer-over _ _ (c .before .before .loop .inv) (c .before .loop-test .left) (c .told3 .ensures)
 
 pub body-of-spec : {M : Type 1} → statement M
 body-of-spec =
@@ -86,16 +66,19 @@ body-of-spec =
     Inv-loop
     μ-loop
     loop-holds
-    line-at-requires
-    end-fault-requires
-    is-frame-requires
-    is-frame-requires-2
-    add-count
-    add-firsts
-    loop-less
-    loop-again
-    loop-less-2
-    loop-again-2
+    (λ c κs. omega arith)
+    (λ c κs. (omega arith, omega arith))
+    (λ c κs. search needs)
     returns
+    (λ c κs. (omega arith, omega arith))
+    (λ c κs. (omega arith, omega arith))
+    (λ c κs. search needs)
     returns-2
+    (λ c. omega arith)
+    (λ c. omega arith)
+    (λ c. omega arith)
+    loop-again
+    (λ c. omega arith)
+    loop-again-2
+    (λ c κs. search needs)
     returns-3)
