@@ -1,12 +1,19 @@
 // Questions 9 to 14, put to the numbers of a file that stand in lent slices (document 01, "Questions put to a call"). Each function answers one
 // question, by document 03's test.
+//   are_named, are_mated     9 and 10: every number exists; each odd-numbered arc is the mate of the one before
+//   pairs_rise               11 and 12: smaller camera first, rising strictly (comes_before)
+//   are_fits                 13: each lit pair is a fit (has_pair, is_pair)
+//   none_shared              14: no camera in two pairs
+//   are_below, in_order      9 of a path and of a barrier
+use arcs::node::mate_of;
+use arcs::node::wide;
 ghost use mathlib.Core.Path.{_≡_};
 ghost use Prim.Native.Nat.{ℕ, _≤_};
 ghost use lib.Dec.{ltb};
 ghost use lib.ListN.{length, take};
 ghost use Rattle.counting.specs.Tests.{all};
 ghost use Rattle.counting.specs.Pairs.{pair, pairsOf, pairNamed};
-ghost use Rattle.skew.specs.Graph.{mate, matesFit};
+ghost use Rattle.skew.specs.Graph.{matesFit};
 ghost use Rattle.matching.specs.Stock.{samePair, hasPair, noneShared, pairBefore, pairsRise};
 ghost use Rattle.files.specs.Tables.{Holds};
 ghost use Rattle.files.specs.CertificateFile.{namesInOrder};
@@ -30,12 +37,6 @@ pub fn are_named(firsts: &[u8], seconds: &[u8], count: usize, bound: usize) -> b
     true
 }
 
-fn mate_of(v: u8) -> u8
-    ensures { λ r. ⌜ r ≡ mate v ⌝ }
-{
-    if v % 2 == 0 { v + 1 } else { v - 1 }
-}
-
 // 10: is each odd-numbered arc the mate of the one before?
 pub fn are_mated(tails: &[u8], heads: &[u8], count: usize) -> bool
     requires { ⌜ Holds count (now tails) (now heads) ⌝ }
@@ -47,10 +48,10 @@ pub fn are_mated(tails: &[u8], heads: &[u8], count: usize) -> bool
         if i + 1 == count {
             return true;
         }
-        if tails[i + 1] != mate_of(heads[i]) {
+        if wide(tails[i + 1]) != mate_of(wide(heads[i])) {
             return false;
         }
-        if heads[i + 1] != mate_of(tails[i]) {
+        if wide(heads[i + 1]) != mate_of(wide(tails[i])) {
             return false;
         }
         i += 2;
@@ -103,7 +104,7 @@ fn is_pair(u: u8, v: u8, x: u8, y: u8) -> bool
 }
 
 // Is (u, v) one of the pairs? It looks at each in turn up to the one that is equal: at most all of them.
-pub fn has_pair(firsts: &[u8], seconds: &[u8], count: usize, u: u8, v: u8) -> bool
+fn has_pair(firsts: &[u8], seconds: &[u8], count: usize, u: u8, v: u8) -> bool
     requires { ⌜ Holds count (now firsts) (now seconds) ⌝ }
     ensures { λ r. ⌜ r ≡ hasPair (pairsOf count (now (firsts .entry)) (now (seconds .entry))) (pair u v) ⌝ }
 {
