@@ -10,6 +10,7 @@
 --   GraphFiles       the questions of a graph file
 --   StockFiles       the questions of a stock file
 --   CertificateFiles the questions of a certificate
+--   FirstLines       which kind of certificate a file is, by its first line
 --   ArcTables        a graph that was read, as the search takes it
 pub mod Scans
 pub mod Tables
@@ -22,4 +23,5 @@ pub mod SheetBytes
 pub mod GraphFiles
 pub mod StockFiles
 pub mod CertificateFiles
+pub mod FirstLines
 pub mod ArcTables
