@@ -1,4 +1,5 @@
 -- No camera in two pairs, asked with a table that has a mark for each camera passed.
+--   sharesNone marks pairs           the pairs share no camera, and have none that is marked
 --   shared-start                     an empty table leaves every pair free
 --   shared-step                      a free pair: its cameras are marked, and what is asked goes on behind it
 --   shared-first, shared-second      a camera that is marked: it is in two pairs

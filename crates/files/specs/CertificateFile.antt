@@ -1,12 +1,14 @@
 -- Certificates: paths and barriers (document 01, "The barrier", "Frames" and "Questions put to a call"; the definitions are document 03's).
 --   isPathFile                        the header is a path's
 --   pathArcs, pathFault               a path's arc numbers, and its questions 2 to 9
+--   namesInOrder                      line i names node i, with class at most 82
 --   barrierClasses, barrierFault      a barrier's classes, and its questions 2 to 9
 --   pathSized, pathQuestions          a path's questions 2 to 8, and all of them, as lists
 --   barrierSized, barrierQuestions    a barrier's
 --   pathStored, barrierStored         what a reader stores: the body where 2 to 8 are answered yes
 --   certFault, certHolds              of either kind: the first question answered no, and past the questions whether it holds
---   pathText, barrierText             a path and a barrier as they are written
+--   pathLines, pathText               a path as it is written
+--   classLines, barrierText           and a barrier
 use mathlib.Core.Bool.{Bool, true, _&&_}
 use mathlib.Core.List.{List, [], _∷_, _++_}
 use Prim.Native.Nat.{ℕ, suc}

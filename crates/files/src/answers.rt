@@ -1,4 +1,6 @@
 // Answers written at the front of a lent buffer (document 01, "Frames"): a path, a barrier, a plan, a standing sheet.
+//   put_numbered, put_arcs, put_pairs             body frames, one for each value
+//   put_path, put_barrier, put_plan, put_sheet    whole answers
 use frames::write::put_barrier_line;
 use frames::write::put_frame_of4;
 use frames::write::put_frame2;

@@ -3,8 +3,10 @@
 --   fit-bodies, first-kind, last-kind                             one kind of body line is that kind twice
 --   fit-runs                                                      lines that fit are a run of the first kind, then one of the second
 --   last-cons, before-cons, split-last                            the last line and those before it
---   BodyLeft, left-..                                             what is left of both questions at a line
+--   BodyLeft, left-start, left-stay, left-turn                    what is left of both questions: at the first line, and past a line of either kind
+--   first-more, first-same                                        how the count of the first kind moves on
 --   answer-end, answer-fail, answer-over                          the answers: at the last line, at a line that does not fit, at no line
+--   end-seven, end-none                                           of the last line alone: another count, and the right one
 use mathlib.Core.Path.{_≡_, refl, ap, sym, _∙_}
 use mathlib.Core.Logic.{_≢_}
 use mathlib.Core.Bool.{Bool, true, false, _&&_, and-false, and-true}

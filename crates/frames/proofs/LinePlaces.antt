@@ -1,6 +1,7 @@
 -- Lines by their places in a file.
 --   line-here                                     what a place, the line's length and its line end make a LineAt
---   SameLine, same-..                             no line end stands from one place up to another; how a reader moves on
+--   SameLine                                      no line end stands from one place up to another
+--   same-start, same-next, same-ended, same-over  so at a line's first byte, past a byte, at a line end, at the file's end
 --   lines-here, lines-some, last-here             the lines from a place on: the line there, and those from the next on
 --   line-after                                    where the line behind it begins
 --   ends-here                                     whether the last line is ended, from a place on

@@ -1,6 +1,7 @@
 -- Question 3, line by line: is a file whole lines, each a positive even number of digits?
 --   DigitsUpTo f at i                        digits of one line stand from `at` up to i
 --   digits-start, digits-next                how a reader moves on
+--   digit-inside                             a digit stands within the file
 --   whole-next                               what is left past a line that is whole
 --   fails-other, fails-empty, fails-odd      a line that is not: another byte or no line end, nothing, an odd number of digits
 --   whole-over, whole-failed                 the answers, at the file's end and at a line that is not whole

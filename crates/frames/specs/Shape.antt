@@ -1,8 +1,9 @@
 -- The shape of a file as it is read: the header's questions and the body's, and what is known of a file that they refuse nothing of
 -- (document 01, "Questions put to a call").
---   formOf layout                               the form that a layout stands for
+--   formOf layout, bodiesOf first second        the form that a layout stands for; its body kinds, one where both are the same
 --   firstKind, lastKind                         a form's body kinds
 --   lastOf lines, beforeLast lines              the last of some lines, and those before it
+--   linesFit kinds size end lines               question 6, of the lines after the header
 --   headerQuestions form file, headerFault      questions 2, 3 and 4
 --   bodyQuestions form lines, bodyFault         questions 6 and 7, of the lines after the header
 --   endFault kind count line                    what the last line decides of them

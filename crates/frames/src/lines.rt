@@ -1,4 +1,7 @@
 // Lines of a file: where one ends, and question 3. What ends a line is told by `line_end` alone.
+//   line_end         the bytes that a line end takes
+//   Line, line_at    the line at a place
+//   whole            question 3
 use crate::numbers::digit_at;
 ghost use mathlib.Core.Path.{_≡_};
 ghost use Prim.Native.Nat.{_<_};

@@ -1,4 +1,6 @@
 // Numbers of hexadecimal digits at a place of a file. Every byte has a value here; only question 3 tells digits from other bytes.
+//   digit_at, digit_value    a byte as a digit
+//   hex2, hex4               numbers of two and four digits
 ghost use mathlib.Core.Path.{_≡_};
 ghost use Prim.Native.Nat.{_+_, _≤_};
 ghost use lib.ListN.{length, getD};

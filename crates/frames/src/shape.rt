@@ -1,5 +1,11 @@
 // Questions 2 to 4 and 6, 7: the shape of a file, the same for every kind of file. The header is read first, then the caller asks question 5 of its
 // numbers, then the body is read; a file that has no question 5 is read in one step.
+//   Layout, GRAPH, STOCK, PATH, BARRIER      a kind of file, and the four
+//   is_frame, end_fault                      a line as a frame of a kind, and as the end frame
+//   Body, told, body_of, body_from           questions 6 and 7, over the slice from the second line on
+//   Header, header_of                        questions 2, 3 and 4
+//   graph_header, graph_body, stock_header, stock_body      the two steps of a graph file and of a stock file
+//   Shape, no_shape, shape_of, path_shape, barrier_shape    both steps of a certificate
 use crate::lines::line_at;
 use crate::lines::whole;
 use crate::numbers::hex2;

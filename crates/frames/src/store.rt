@@ -1,6 +1,8 @@
 // Body frames stored in slices that the caller lends. Each function stores the run of frames of one kind that begins at `at`: it stops at the first
 // line of another kind, as the end frame is, so that runs of two kinds are stored by two calls that pass once over the bytes together.
 // The slices are lent, not held in a struct: a body has up to 8,570 lines, and what holds it is not copied from call to call.
+//   Run                            a run that was stored
+//   store_pairs, store_numbers     frames with two numbers of two digits, and with one of four
 use crate::lines::line_at;
 use crate::numbers::hex2;
 use crate::numbers::hex4;

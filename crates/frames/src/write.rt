@@ -1,5 +1,8 @@
 // Frames written into a buffer that the caller lends (document 01, "Frames"). Each function writes at `at` and answers the place right behind what it
 // wrote, so that a run of calls writes a run of frames.
+//   digit_byte, put_hex2, put_hex4, put_line_feed           the parts of a frame
+//   put_frame2, put_frame4, put_frame6, put_frame_of4       frames
+//   put_text, begins_with, put_barrier_line, begins_barrier the first line of a barrier, written and compared
 ghost use mathlib.Core.Path.{_≡_};
 ghost use mathlib.Core.List.{[], _∷_};
 ghost use Prim.Native.Nat.{_+_, _<_, _≤_};
