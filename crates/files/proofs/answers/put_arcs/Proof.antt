@@ -18,27 +18,9 @@ abbrev μ-loop : tie.MeasureT-loop
 loop-holds : tie.Need-loop-holds Inv-loop μ-loop
 loop-holds c = writing-start _ _ _ _
 
-mul-put-frame-of4 : tie.Need-mul-put-frame-of4 Inv-loop μ-loop
-mul-put-frame-of4 c = search needs
-
-shared-slice-read-put-frame-of4 : tie.Need-shared-slice-read-put-frame-of4 Inv-loop μ-loop
-shared-slice-read-put-frame-of4 c = search needs
-
-put-frame-of4-requires : tie.Need-put-frame-of4-requires Inv-loop μ-loop
-put-frame-of4-requires c κs = search needs
-
-add-i : tie.Need-add-i Inv-loop μ-loop
-add-i c = search needs
-
-loop-less : tie.Need-loop-less Inv-loop μ-loop
-loop-less c = search needs
-
 loop-again : tie.Need-loop-again Inv-loop μ-loop
 loop-again c =
     writing-step (c .before .before .before .before .before .before .loop .inv) (c .before .before .before .before .before .loop-test .taken) (c .before .before .put-frame-of4 .ensures)
-
-same-length : tie.Need-same-length Inv-loop μ-loop
-same-length c = search needs
 
 returns : tie.Need-returns Inv-loop μ-loop
 returns c = writing-end (c .before .loop .inv) (λ i x. frameOf4-length 0x22 x) (c .loop-test .left)
@@ -50,11 +32,11 @@ put-arcs-spec =
     Inv-loop
     μ-loop
     loop-holds
-    mul-put-frame-of4
-    shared-slice-read-put-frame-of4
-    put-frame-of4-requires
-    add-i
-    loop-less
+    (λ c. search needs)
+    (λ c. search needs)
+    (λ c κs. search needs)
+    (λ c. search needs)
+    (λ c. search needs)
     loop-again
-    same-length
+    (λ c. search needs)
     returns)

@@ -5,18 +5,6 @@ use borrow.Author.Needs.{needs}
 use Rattle.files.proofs.answers.put_barrier.Statement.{statement}
 use Rattle.files.proofs.answers.put_barrier.Tie as tie
 
-put-barrier-line-requires : tie.Need-put-barrier-line-requires
-put-barrier-line-requires c κs = search needs
-
-put-numbered-requires : tie.Need-put-numbered-requires
-put-numbered-requires c κs = search needs
-
-put-frame-of4-requires : tie.Need-put-frame-of4-requires
-put-frame-of4-requires c κs = search needs
-
-same-length : tie.Need-same-length
-same-length c = search needs
-
 returns : tie.Need-returns
 returns c =
     rw (class-lines _ _) at (first-written (c .before .before .before .before .before .before .before .before .before .before .put-barrier-line .ensures) (c .before .before .before .before .before .before .put-numbered .ensures) (c .before .before .put-frame-of4 .ensures) (omega arith))
@@ -25,8 +13,8 @@ pub put-barrier-spec : {M : Type 1} → statement M
 put-barrier-spec =
     tie.close
     (tie.spec
-    put-barrier-line-requires
-    put-numbered-requires
-    put-frame-of4-requires
-    same-length
+    (λ c κs. search needs)
+    (λ c κs. search needs)
+    (λ c κs. search needs)
+    (λ c. search needs)
     returns)

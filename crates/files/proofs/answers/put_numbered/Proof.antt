@@ -19,27 +19,12 @@ abbrev μ-loop : tie.MeasureT-loop
 loop-holds : tie.Need-loop-holds Inv-loop μ-loop
 loop-holds c = writing-start _ _ _ _
 
-shared-slice-read-put-frame6 : tie.Need-shared-slice-read-put-frame6 Inv-loop μ-loop
-shared-slice-read-put-frame6 c = search needs
-
 cast-put-frame6 : tie.Need-cast-put-frame6 Inv-loop μ-loop
 cast-put-frame6 c = omega (arith, c .shared-slice-known2 .given (c .before .before .before .loop .i))
-
-put-frame6-requires : tie.Need-put-frame6-requires Inv-loop μ-loop
-put-frame6-requires c κs = search needs
-
-add-i : tie.Need-add-i Inv-loop μ-loop
-add-i c = search needs
-
-loop-less : tie.Need-loop-less Inv-loop μ-loop
-loop-less c = search needs
 
 loop-again : tie.Need-loop-again Inv-loop μ-loop
 loop-again c =
     writing-step (c .before .before .before .before .before .before .loop .inv) (c .before .before .before .before .before .loop-test .taken) (c .before .before .put-frame6 .ensures)
-
-same-length : tie.Need-same-length Inv-loop μ-loop
-same-length c = search needs
 
 returns : tie.Need-returns Inv-loop μ-loop
 returns c = writing-end (c .before .loop .inv) (frame6-length _) (c .loop-test .left)
@@ -51,11 +36,11 @@ put-numbered-spec =
     Inv-loop
     μ-loop
     loop-holds
-    shared-slice-read-put-frame6
+    (λ c. search needs)
     cast-put-frame6
-    put-frame6-requires
-    add-i
-    loop-less
+    (λ c κs. search needs)
+    (λ c. search needs)
+    (λ c. search needs)
     loop-again
-    same-length
+    (λ c. search needs)
     returns)

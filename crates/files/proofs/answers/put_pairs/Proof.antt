@@ -19,33 +19,15 @@ abbrev μ-loop : tie.MeasureT-loop
 loop-holds : tie.Need-loop-holds Inv-loop μ-loop
 loop-holds c = writing-start _ _ _ _
 
-shared-slice-read-put-frame6 : tie.Need-shared-slice-read-put-frame6 Inv-loop μ-loop
-shared-slice-read-put-frame6 c = search needs
-
 cast-put-frame6 : tie.Need-cast-put-frame6 Inv-loop μ-loop
 cast-put-frame6 c = omega (arith, c .shared-slice-known3 .given (c .before .before .before .loop .i))
-
-shared-slice-read-put-frame6-2 : tie.Need-shared-slice-read-put-frame6-2 Inv-loop μ-loop
-shared-slice-read-put-frame6-2 c = search needs
 
 cast-put-frame6-2 : tie.Need-cast-put-frame6-2 Inv-loop μ-loop
 cast-put-frame6-2 c = omega (arith, c .shared-slice-known4 .given (c .before .before .before .before .loop .i))
 
-put-frame6-requires : tie.Need-put-frame6-requires Inv-loop μ-loop
-put-frame6-requires c κs = search needs
-
-add-i : tie.Need-add-i Inv-loop μ-loop
-add-i c = search needs
-
-loop-less : tie.Need-loop-less Inv-loop μ-loop
-loop-less c = search needs
-
 loop-again : tie.Need-loop-again Inv-loop μ-loop
 loop-again c =
     writing-step (c .before .before .before .before .before .before .before .loop .inv) (c .before .before .before .before .before .before .loop-test .taken) (c .before .before .put-frame6 .ensures)
-
-same-length : tie.Need-same-length Inv-loop μ-loop
-same-length c = search needs
 
 returns : tie.Need-returns Inv-loop μ-loop
 returns c = writing-end (c .before .loop .inv) (λ i x. frame6-length 0x52 x _) (c .loop-test .left)
@@ -57,13 +39,13 @@ put-pairs-spec =
     Inv-loop
     μ-loop
     loop-holds
-    shared-slice-read-put-frame6
+    (λ c. search needs)
     cast-put-frame6
-    shared-slice-read-put-frame6-2
+    (λ c. search needs)
     cast-put-frame6-2
-    put-frame6-requires
-    add-i
-    loop-less
+    (λ c κs. search needs)
+    (λ c. search needs)
+    (λ c. search needs)
     loop-again
-    same-length
+    (λ c. search needs)
     returns)

@@ -22,24 +22,9 @@ abbrev μ-loop : tie.MeasureT-loop
 loop-holds : tie.Need-loop-holds Inv-loop μ-loop
 loop-holds c = (omega arith, refl)
 
-shared-slice-read-has-pair : tie.Need-shared-slice-read-has-pair Inv-loop μ-loop
-shared-slice-read-has-pair c = search needs
-
-shared-slice-read-has-pair-2 : tie.Need-shared-slice-read-has-pair-2 Inv-loop μ-loop
-shared-slice-read-has-pair-2 c = search needs
-
-has-pair-requires : tie.Need-has-pair-requires Inv-loop μ-loop
-has-pair-requires c κs = search needs
-
 returns : tie.Need-returns Inv-loop μ-loop
 returns c =
     sym (c .before .before .before .before .before .loop .inv .1 ∙ all-stop (c .before .before .before .before .before .before .before .before .before .before .pre .1) _ (c .before .before .before .before .loop-test .taken) (hasPair _) (sym (c .before .has-pair .ensures) ∙ not-true _ (c .if1 .taken)))
-
-add-i : tie.Need-add-i Inv-loop μ-loop
-add-i c = search needs
-
-loop-less : tie.Need-loop-less Inv-loop μ-loop
-loop-less c = search needs
 
 loop-again : tie.Need-loop-again Inv-loop μ-loop
 loop-again c =
@@ -56,11 +41,11 @@ are-fits-spec =
     Inv-loop
     μ-loop
     loop-holds
-    shared-slice-read-has-pair
-    shared-slice-read-has-pair-2
-    has-pair-requires
+    (λ c. search needs)
+    (λ c. search needs)
+    (λ c κs. search needs)
     returns
-    add-i
-    loop-less
+    (λ c. search needs)
+    (λ c. search needs)
     loop-again
     returns-2)

@@ -20,9 +20,6 @@ abbrev μ-loop : tie.MeasureT-loop
 loop-holds : tie.Need-loop-holds Inv-loop μ-loop
 loop-holds c = (omega arith, refl)
 
-shared-slice-read-if1 : tie.Need-shared-slice-read-if1 Inv-loop μ-loop
-shared-slice-read-if1 c = search needs
-
 cast-if1 : tie.Need-cast-if1 Inv-loop μ-loop
 cast-if1 c = omega (arith, c .shared-slice-known .given (c .before .before .loop .i))
 
@@ -30,21 +27,12 @@ returns : tie.Need-returns Inv-loop μ-loop
 returns c =
     sym (c .before .before .before .loop .inv .1 ∙ named-first (c .before .before .before .before .pre) _ (c .before .before .loop-test .taken) _ (c .if1 .taken))
 
-shared-slice-read-if2 : tie.Need-shared-slice-read-if2 Inv-loop μ-loop
-shared-slice-read-if2 c = search needs
-
 cast-if2 : tie.Need-cast-if2 Inv-loop μ-loop
 cast-if2 c = omega (arith, c .shared-slice-known2 .given (c .before .before .before .before .loop .i))
 
 returns-2 : tie.Need-returns-2 Inv-loop μ-loop
 returns-2 c =
     sym (c .before .before .before .before .before .loop .inv .1 ∙ named-second (c .before .before .before .before .before .before .pre) _ (c .before .before .before .before .loop-test .taken) _ (c .if2 .taken))
-
-add-i : tie.Need-add-i Inv-loop μ-loop
-add-i c = search needs
-
-loop-less : tie.Need-loop-less Inv-loop μ-loop
-loop-less c = search needs
 
 loop-again : tie.Need-loop-again Inv-loop μ-loop
 loop-again c =
@@ -61,13 +49,13 @@ are-named-spec =
     Inv-loop
     μ-loop
     loop-holds
-    shared-slice-read-if1
+    (λ c. search needs)
     cast-if1
     returns
-    shared-slice-read-if2
+    (λ c. search needs)
     cast-if2
     returns-2
-    add-i
-    loop-less
+    (λ c. search needs)
+    (λ c. search needs)
     loop-again
     returns-3)

@@ -20,24 +20,9 @@ abbrev μ-loop : tie.MeasureT-loop
 loop-holds : tie.Need-loop-holds Inv-loop μ-loop
 loop-holds c = (omega arith, refl)
 
-shared-slice-read-is-pair : tie.Need-shared-slice-read-is-pair Inv-loop μ-loop
-shared-slice-read-is-pair c = search needs
-
-shared-slice-read-is-pair-2 : tie.Need-shared-slice-read-is-pair-2 Inv-loop μ-loop
-shared-slice-read-is-pair-2 c = search needs
-
-is-pair-requires : tie.Need-is-pair-requires Inv-loop μ-loop
-is-pair-requires c κs = search needs
-
 returns : tie.Need-returns Inv-loop μ-loop
 returns c =
     sym (c .before .before .before .before .before .loop .inv .1 ∙ has-hit (c .before .before .before .before .before .before .before .before .pre) _ (c .before .before .before .before .loop-test .taken) _ (sym (c .before .is-pair .ensures) ∙ c .if1 .taken))
-
-add-i : tie.Need-add-i Inv-loop μ-loop
-add-i c = search needs
-
-loop-less : tie.Need-loop-less Inv-loop μ-loop
-loop-less c = search needs
 
 loop-again : tie.Need-loop-again Inv-loop μ-loop
 loop-again c =
@@ -54,11 +39,11 @@ has-pair-spec =
     Inv-loop
     μ-loop
     loop-holds
-    shared-slice-read-is-pair
-    shared-slice-read-is-pair-2
-    is-pair-requires
+    (λ c. search needs)
+    (λ c. search needs)
+    (λ c κs. search needs)
     returns
-    add-i
-    loop-less
+    (λ c. search needs)
+    (λ c. search needs)
     loop-again
     returns-2)

@@ -22,14 +22,8 @@ loop-holds : tie.Need-loop-holds Inv-loop μ-loop
 unfolding all
 loop-holds c = (omega arith, refl, shared-start _ _ refl)
 
-shared-slice-read-u : tie.Need-shared-slice-read-u Inv-loop μ-loop
-shared-slice-read-u c = search needs
-
 cast-u : tie.Need-cast-u Inv-loop μ-loop
 cast-u c = omega (arith, c .shared-slice-known .given (c .before .before .loop .i))
-
-shared-slice-read-v : tie.Need-shared-slice-read-v Inv-loop μ-loop
-shared-slice-read-v c = search needs
 
 cast-v : tie.Need-cast-v Inv-loop μ-loop
 cast-v c = omega (arith, c .shared-slice-known2 .given (c .before .before .before .loop .i))
@@ -56,12 +50,6 @@ array-write-marks-2 : tie.Need-array-write-marks-2 Inv-loop μ-loop
 array-write-marks-2 c =
     let v = c .before .before .shared-slice-known2 .given (c .before .before .before .before .before .loop .i) in omega arith
 
-add-i : tie.Need-add-i Inv-loop μ-loop
-add-i c = search needs
-
-loop-less : tie.Need-loop-less Inv-loop μ-loop
-loop-less c = search needs
-
 loop-again : tie.Need-loop-again Inv-loop μ-loop
 loop-again c =
     let l = c .before .before .before .before .before .loop .inv .1 in
@@ -84,9 +72,9 @@ none-shared-spec =
     Inv-loop
     μ-loop
     loop-holds
-    shared-slice-read-u
+    (λ c. search needs)
     cast-u
-    shared-slice-read-v
+    (λ c. search needs)
     cast-v
     array-read-if1
     returns
@@ -94,7 +82,7 @@ none-shared-spec =
     returns-2
     array-write-marks
     array-write-marks-2
-    add-i
-    loop-less
+    (λ c. search needs)
+    (λ c. search needs)
     loop-again
     returns-3)

@@ -21,53 +21,17 @@ abbrev μ-loop : tie.MeasureT-loop
 loop-holds : tie.Need-loop-holds Inv-loop μ-loop
 loop-holds c = (omega arith, refl)
 
-shared-slice-read-if1 : tie.Need-shared-slice-read-if1 Inv-loop μ-loop
-shared-slice-read-if1 c = search needs
-
-shared-slice-read-if1-2 : tie.Need-shared-slice-read-if1-2 Inv-loop μ-loop
-shared-slice-read-if1-2 c = search needs
-
 returns : tie.Need-returns Inv-loop μ-loop
 returns c =
     sym (c .before .before .before .before .loop .inv .1 ∙ rise-first (c .before .before .before .before .before .before .before .pre) _ (c .before .before .before .loop-test .taken) (c .if1 .taken))
-
-add-if2 : tie.Need-add-if2 Inv-loop μ-loop
-add-if2 c = search needs
 
 returns-2 : tie.Need-returns-2 Inv-loop μ-loop
 returns-2 c =
     sym (c .before .before .before .before .before .loop .inv .1 ∙ rise-last (c .before .before .before .before .before .before .before .before .pre) _ (c .before .before .before .before .loop-test .taken) (c .if2 .taken) (c .before .if1 .left))
 
-shared-slice-read-comes-before : tie.Need-shared-slice-read-comes-before Inv-loop μ-loop
-shared-slice-read-comes-before c = search needs
-
-shared-slice-read-comes-before-2 : tie.Need-shared-slice-read-comes-before-2 Inv-loop μ-loop
-shared-slice-read-comes-before-2 c = search needs
-
-add-comes-before : tie.Need-add-comes-before Inv-loop μ-loop
-add-comes-before c = search needs
-
-shared-slice-read-comes-before-3 : tie.Need-shared-slice-read-comes-before-3 Inv-loop μ-loop
-shared-slice-read-comes-before-3 c = search needs
-
-add-comes-before-2 : tie.Need-add-comes-before-2 Inv-loop μ-loop
-add-comes-before-2 c = search needs
-
-shared-slice-read-comes-before-4 : tie.Need-shared-slice-read-comes-before-4 Inv-loop μ-loop
-shared-slice-read-comes-before-4 c = search needs
-
-comes-before-requires : tie.Need-comes-before-requires Inv-loop μ-loop
-comes-before-requires c κs = search needs
-
 returns-3 : tie.Need-returns-3 Inv-loop μ-loop
 returns-3 c =
     sym (c .before .before .before .before .before .before .before .before .before .before .before .loop .inv .1 ∙ rise-turn (c .before .before .before .before .before .before .before .before .before .before .before .before .before .before .pre) _ (omega arith) (c .before .before .before .before .before .before .before .if1 .left) (sym (c .before .comes-before .ensures) ∙ not-true _ (c .if3 .taken)))
-
-add-i : tie.Need-add-i Inv-loop μ-loop
-add-i c = search needs
-
-loop-less : tie.Need-loop-less Inv-loop μ-loop
-loop-less c = search needs
 
 loop-again : tie.Need-loop-again Inv-loop μ-loop
 loop-again c =
@@ -84,20 +48,20 @@ pairs-rise-spec =
     Inv-loop
     μ-loop
     loop-holds
-    shared-slice-read-if1
-    shared-slice-read-if1-2
+    (λ c. search needs)
+    (λ c. search needs)
     returns
-    add-if2
+    (λ c. search needs)
     returns-2
-    shared-slice-read-comes-before
-    shared-slice-read-comes-before-2
-    add-comes-before
-    shared-slice-read-comes-before-3
-    add-comes-before-2
-    shared-slice-read-comes-before-4
-    comes-before-requires
+    (λ c. search needs)
+    (λ c. search needs)
+    (λ c. search needs)
+    (λ c. search needs)
+    (λ c. search needs)
+    (λ c. search needs)
+    (λ c κs. search needs)
     returns-3
-    add-i
-    loop-less
+    (λ c. search needs)
+    (λ c. search needs)
     loop-again
     returns-4)

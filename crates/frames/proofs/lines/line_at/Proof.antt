@@ -18,20 +18,11 @@ abbrev μ-loop : tie.MeasureT-loop
 loop-holds : tie.Need-loop-holds Inv-loop μ-loop
 loop-holds c = same-start _ _ (c .before .pre)
 
-line-end-requires : tie.Need-line-end-requires Inv-loop μ-loop
-line-end-requires c κs = search needs
-
 add-t7 : tie.Need-add-t7 Inv-loop μ-loop
 add-t7 c = omega (arith, end-within (c .before .before .before .before .before .args .f .now) (c .before .before .before .loop .end) (c .before .before .before .loop .inv .high))
 
 returns : tie.Need-returns Inv-loop μ-loop
 returns c = same-ended _ _ _ (c .before .before .before .loop .inv) _ (c .before .before .before .before .before .pre) (c .before .line-end .ensures) (omega arith)
-
-add-end : tie.Need-add-end Inv-loop μ-loop
-add-end c = search needs
-
-loop-less : tie.Need-loop-less Inv-loop μ-loop
-loop-less c = search needs
 
 loop-again : tie.Need-loop-again Inv-loop μ-loop
 loop-again c = same-next _ _ _ (c .before .before .before .loop .inv) (c .before .before .loop-test .taken) (omega arith)
@@ -46,10 +37,10 @@ line-at-spec =
     Inv-loop
     μ-loop
     loop-holds
-    line-end-requires
+    (λ c κs. search needs)
     add-t7
     returns
-    add-end
-    loop-less
+    (λ c. search needs)
+    (λ c. search needs)
     loop-again
     returns-2)

@@ -9,9 +9,6 @@ use Rattle.frames.proofs.lines.line_end.Tie as tie
 returns : tie.Need-returns
 returns c = sym (end-none (c .before .args .f .now) (c .before .args .at) (c .if1 .taken))
 
-shared-slice-read-if2 : tie.Need-shared-slice-read-if2
-shared-slice-read-if2 c = search needs
-
 returns-2 : tie.Need-returns-2
 returns-2 c = sym (end-feed (c .before .before .before .args .f .now) (c .before .before .before .args .at) (omega arith) (c .if2 .taken))
 
@@ -19,4 +16,4 @@ returns-3 : tie.Need-returns-3
 returns-3 c = sym (end-other (c .before .before .before .args .f .now) (c .before .before .before .args .at) (omega arith) (c .if2 .left))
 
 pub line-end-spec : {M : Type 1} → statement M
-line-end-spec = tie.close (tie.spec returns shared-slice-read-if2 returns-2 returns-3)
+line-end-spec = tie.close (tie.spec returns (λ c. search needs) returns-2 returns-3)

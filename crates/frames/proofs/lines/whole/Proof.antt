@@ -33,9 +33,6 @@ lines-holds c = (omega arith, refl)
 loop-holds : tie.Need-loop-holds Inv-loop μ-loop Inv-lines μ-lines
 loop-holds c = (digits-start _ _ (c .lines-test .taken), λ z. absurd (z refl))
 
-digit-at-requires : tie.Need-digit-at-requires Inv-loop μ-loop Inv-lines μ-lines
-digit-at-requires c κs = search needs
-
 add-i : tie.Need-add-i Inv-loop μ-loop Inv-lines μ-lines
 add-i c = omega (arith, digit-inside (c .before .before .before .before .before .before .before .args .f .now) (c .before .before .before .loop .i) (sym (c .before .digit-at .ensures) ∙ c .if1 .taken))
 
@@ -45,26 +42,14 @@ loop-less c = omega (arith, digit-inside (c .before .before .before .before .bef
 loop-again : tie.Need-loop-again Inv-loop μ-loop Inv-lines μ-lines
 loop-again c = (digits-next _ _ _ (c .before .before .before .loop .inv .0) (sym (c .before .digit-at .ensures) ∙ c .if1 .taken), λ z. absurd (z (c .before .before .loop-test .taken)))
 
-line-end-requires : tie.Need-line-end-requires Inv-loop μ-loop Inv-lines μ-lines
-line-end-requires c κs = search needs
-
-loop-less-2 : tie.Need-loop-less-2 Inv-loop μ-loop Inv-lines μ-lines
-loop-less-2 c = search needs
-
 loop-again-2 : tie.Need-loop-again-2 Inv-loop μ-loop Inv-lines μ-lines
 loop-again-2 c = (c .before .before .before .before .before .loop .inv .0, λ z. c .before .line-end .ensures)
-
-sub-if4 : tie.Need-sub-if4 Inv-loop μ-loop Inv-lines μ-lines
-sub-if4 c = search needs
 
 add-at : tie.Need-add-at Inv-loop μ-loop Inv-lines μ-lines
 add-at c =
     let l = c .before .before .before .loop in
     let e = l .inv .1 (c .before .before .loop-test .left) in
     omega (arith, end-within (c .before .before .before .before .before .before .before .args .f .now) (l .i) (l .inv .0 .line .high))
-
-lines-less : tie.Need-lines-less Inv-loop μ-loop Inv-lines μ-lines
-lines-less c = search needs
 
 lines-again : tie.Need-lines-again Inv-loop μ-loop Inv-lines μ-lines
 lines-again c =
@@ -102,15 +87,15 @@ whole-spec =
     μ-lines
     lines-holds
     loop-holds
-    digit-at-requires
+    (λ c κs. search needs)
     add-i
     loop-less
     loop-again
-    line-end-requires
-    loop-less-2
+    (λ c κs. search needs)
+    (λ c. search needs)
     loop-again-2
-    sub-if4
+    (λ c. search needs)
     add-at
-    lines-less
+    (λ c. search needs)
     lines-again
     returns)

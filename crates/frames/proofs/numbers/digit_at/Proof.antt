@@ -9,9 +9,6 @@ use Rattle.frames.proofs.numbers.digit_at.Tie as tie
 returns : tie.Need-returns
 returns c = simp (List·getD-eq-default (c .before .args .f .now) 0 (c .if1 .taken))
 
-shared-slice-read-c : tie.Need-shared-slice-read-c
-shared-slice-read-c c = search needs
-
 returns-2 : tie.Need-returns-2
 returns-2 c = let x = getD (c .before .before .before .args .f .now) (c .before .before .before .args .at) 0 in simp (lt-leb 48 x (omega arith), lt-leb 65 x (omega arith))
 
@@ -30,4 +27,4 @@ returns-5 c =
 
 pub digit-at-spec : {M : Type 1} → statement M
 digit-at-spec =
-    tie.close (tie.spec returns shared-slice-read-c returns-2 returns-3 returns-4 returns-5)
+    tie.close (tie.spec returns (λ c. search needs) returns-2 returns-3 returns-4 returns-5)

@@ -5,15 +5,6 @@ use borrow.Author.Needs.{needs}
 use Rattle.frames.proofs.numbers.digit_value.Statement.{statement}
 use Rattle.frames.proofs.numbers.digit_value.Tie as tie
 
-cast-result : tie.Need-cast-result
-cast-result c = search needs
-
-sub-result : tie.Need-sub-result
-sub-result c = search needs
-
-cast-result-2 : tie.Need-cast-result-2
-cast-result-2 c = search needs
-
 returns : tie.Need-returns
 returns c = record { is = simp (le-leb (c .before .before .args .c) 57 (c .before .if1 .taken)) (omega arith); small = omega arith }
 
@@ -24,4 +15,4 @@ returns-3 : tie.Need-returns-3
 returns-3 c = record { is = simp (lt-leb (c .before .args .c) 57 (c .if1 .left)) (omega arith); small = omega arith }
 
 pub digit-value-spec : {M : Type 1} → statement M
-digit-value-spec = tie.close (tie.spec cast-result sub-result cast-result-2 returns returns-2 returns-3)
+digit-value-spec = tie.close (tie.spec (λ c. search needs) (λ c. search needs) (λ c. search needs) returns returns-2 returns-3)

@@ -7,14 +7,8 @@ use borrow.Author.Needs.{needs}
 use Rattle.frames.proofs.shape.end_fault.Statement.{statement}
 use Rattle.frames.proofs.shape.end_fault.Tie as tie
 
-is-frame-requires : tie.Need-is-frame-requires
-is-frame-requires c κs = search needs
-
 returns : tie.Need-returns
 returns c = let e = sym (c .before .is-frame .ensures) ∙ not-true _ (c .if1 .taken) in rw e
-
-add-hex4 : tie.Need-add-hex4
-add-hex4 c = search needs
 
 hex4-requires : tie.Need-hex4-requires
 hex4-requires c κs = let z = frame-size _ _ _ 4 _ (c .before .before .before .pre .1) (sym (c .before .is-frame .ensures) ∙ not-false _ (c .if1 .left)) in omega arith
@@ -27,4 +21,4 @@ returns-3 c = end-none _ _ _ _ _ (c .before .before .before .before .before .pre
 
 pub end-fault-spec : {M : Type 1} → statement M
 end-fault-spec =
-    tie.close (tie.spec is-frame-requires returns add-hex4 hex4-requires returns-2 returns-3)
+    tie.close (tie.spec (λ c κs. search needs) returns (λ c. search needs) hex4-requires returns-2 returns-3)

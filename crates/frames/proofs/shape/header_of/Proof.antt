@@ -9,20 +9,11 @@ use Rattle.frames.proofs.shape.header_of.Tie as tie
 returns : tie.Need-returns
 returns c = answer-two _ _ (c .if1 .taken)
 
-whole-requires : tie.Need-whole-requires
-whole-requires c κs = search needs
-
 returns-2 : tie.Need-returns-2
 returns-2 c = answer-three _ _ (c .before .before .if1 .left) (sym (c .before .whole .ensures) ∙ not-true _ (c .if2 .taken))
 
 returns-3 : tie.Need-returns-3
 returns-3 c = answer-empty _ _ (c .before .before .before .if1 .left) (sym (c .before .before .whole .ensures) ∙ not-false _ (c .before .if2 .left)) (c .if3 .taken)
-
-line-at-requires : tie.Need-line-at-requires
-line-at-requires c κs = search needs
-
-is-frame-requires : tie.Need-is-frame-requires
-is-frame-requires c κs = search needs
 
 returns-4 : tie.Need-returns-4
 returns-4 c =
@@ -39,10 +30,10 @@ header-of-spec =
     tie.close
     (tie.spec
     returns
-    whole-requires
+    (λ c κs. search needs)
     returns-2
     returns-3
-    line-at-requires
-    is-frame-requires
+    (λ c κs. search needs)
+    (λ c κs. search needs)
     returns-4
     returns-5)

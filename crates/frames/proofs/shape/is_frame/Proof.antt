@@ -6,20 +6,14 @@ use borrow.Author.Needs.{needs}
 use Rattle.frames.proofs.shape.is_frame.Statement.{statement}
 use Rattle.frames.proofs.shape.is_frame.Tie as tie
 
-sub-n : tie.Need-sub-n
-sub-n c = search needs
-
 returns : tie.Need-returns
 returns c = sym (frame-no _ _ _ _ _ (c .before .before .pre .1) (λ e. omega arith))
 
 returns-2 : tie.Need-returns-2
 returns-2 c = sym (frame-no _ _ _ _ _ (c .before .before .before .pre .1) (λ e. c .if2 .taken (omega arith)))
 
-hex2-requires : tie.Need-hex2-requires
-hex2-requires c κs = search needs
-
 returns-3 : tie.Need-returns-3
 returns-3 c = frame-by _ _ _ _ _ (c .before .before .before .before .pre .1) (c .hex2 .result) (omega arith) (c .hex2 .ensures .is)
 
 pub is-frame-spec : {M : Type 1} → statement M
-is-frame-spec = tie.close (tie.spec sub-n returns returns-2 hex2-requires returns-3)
+is-frame-spec = tie.close (tie.spec (λ c. search needs) returns returns-2 (λ c κs. search needs) returns-3)

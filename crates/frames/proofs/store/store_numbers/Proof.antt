@@ -14,26 +14,14 @@ Inv-loop g at kind out₀ i₀ n₀ out i n = Passing kind g at i n × Filling 2
 abbrev μ-loop : tie.MeasureT-loop
 μ-loop g at kind out₀ i₀ n₀ out i n = length g - i
 
-loop-holds : tie.Need-loop-holds Inv-loop μ-loop
-loop-holds c = search needs
-
-line-at-requires : tie.Need-line-at-requires Inv-loop μ-loop
-line-at-requires c κs = search needs
-
 hex2-requires : tie.Need-hex2-requires Inv-loop μ-loop
 hex2-requires c κs = let w = line-numbers (c .line-at .ensures) (c .before .before .loop .inv .0) in omega arith
-
-same-length : tie.Need-same-length Inv-loop μ-loop
-same-length c = search needs
 
 returns : tie.Need-returns Inv-loop μ-loop
 returns c =
     let v = c .before .before .before .before .loop .inv in
     let stop = stopped-other (c .before .before .line-at .ensures) (v .0) (λ e. c .if1 .taken (c .before .hex2 .ensures .is ∙ e)) in
     stored-numbers (v .0) stop (v .1) (omega arith)
-
-add-hex4 : tie.Need-add-hex4 Inv-loop μ-loop
-add-hex4 c = search needs
 
 hex4-requires : tie.Need-hex4-requires Inv-loop μ-loop
 hex4-requires c κs =
@@ -43,20 +31,11 @@ cast-out : tie.Need-cast-out Inv-loop μ-loop
 cast-out c =
     let w = line-numbers (c .before .before .before .line-at .ensures) (c .before .before .before .before .before .loop .inv .0) in omega arith
 
-mul-out : tie.Need-mul-out Inv-loop μ-loop
-mul-out c = search needs
-
 slice-write-out : tie.Need-slice-write-out Inv-loop μ-loop
 slice-write-out c =
     let e = sym (c .before .before .hex2 .ensures .is) ∙ c .before .if1 .left in
     let w = passing-room (c .before .before .before .line-at .ensures) (c .before .before .before .before .before .loop .inv .0) e in
     omega arith
-
-add-n : tie.Need-add-n Inv-loop μ-loop
-add-n c = search needs
-
-loop-less : tie.Need-loop-less Inv-loop μ-loop
-loop-less c = search needs
 
 loop-again : tie.Need-loop-again Inv-loop μ-loop
 loop-again c =
@@ -64,9 +43,6 @@ loop-again c =
     let l = c .before .before .before .line-at .ensures in
     let e = sym (c .before .before .hex2 .ensures .is) ∙ c .before .if1 .left in
     (passing-on l (v .0) e, rw (c .hex4 .ensures .is) (filling-on l (v .0) e (omega arith) (v .1)))
-
-same-length-2 : tie.Need-same-length-2 Inv-loop μ-loop
-same-length-2 c = search needs
 
 returns-2 : tie.Need-returns-2 Inv-loop μ-loop
 returns-2 c =
@@ -79,18 +55,18 @@ store-numbers-spec =
     (tie.spec
     Inv-loop
     μ-loop
-    loop-holds
-    line-at-requires
+    (λ c. search needs)
+    (λ c κs. search needs)
     hex2-requires
-    same-length
+    (λ c. search needs)
     returns
-    add-hex4
+    (λ c. search needs)
     hex4-requires
     cast-out
-    mul-out
+    (λ c. search needs)
     slice-write-out
-    add-n
-    loop-less
+    (λ c. search needs)
+    (λ c. search needs)
     loop-again
-    same-length-2
+    (λ c. search needs)
     returns-2)

@@ -15,29 +15,14 @@ Inv-loop g at kind firsts₀ seconds₀ i₀ n₀ firsts seconds i n =
 abbrev μ-loop : tie.MeasureT-loop
 μ-loop g at kind firsts₀ seconds₀ i₀ n₀ firsts seconds i n = length g - i
 
-loop-holds : tie.Need-loop-holds Inv-loop μ-loop
-loop-holds c = search needs
-
-line-at-requires : tie.Need-line-at-requires Inv-loop μ-loop
-line-at-requires c κs = search needs
-
 hex2-requires : tie.Need-hex2-requires Inv-loop μ-loop
 hex2-requires c κs = let w = line-numbers (c .line-at .ensures) (c .before .before .loop .inv .0) in omega arith
-
-same-length : tie.Need-same-length Inv-loop μ-loop
-same-length c = search needs
-
-same-length-2 : tie.Need-same-length-2 Inv-loop μ-loop
-same-length-2 c = search needs
 
 returns : tie.Need-returns Inv-loop μ-loop
 returns c =
     let v = c .before .before .before .before .loop .inv in
     let stop = stopped-other (c .before .before .line-at .ensures) (v .0) (λ e. c .if1 .taken (c .before .hex2 .ensures .is ∙ e)) in
     stored-pairs (v .0) stop (v .1) (v .2) (omega arith) (omega arith)
-
-add-hex2 : tie.Need-add-hex2 Inv-loop μ-loop
-add-hex2 c = search needs
 
 hex2-requires-2 : tie.Need-hex2-requires-2 Inv-loop μ-loop
 hex2-requires-2 c κs =
@@ -53,9 +38,6 @@ slice-write-firsts c =
     let w = passing-room (c .before .before .before .line-at .ensures) (c .before .before .before .before .before .loop .inv .0) e in
     omega arith
 
-add-hex2-2 : tie.Need-add-hex2-2 Inv-loop μ-loop
-add-hex2-2 c = search needs
-
 hex2-requires-3 : tie.Need-hex2-requires-3 Inv-loop μ-loop
 hex2-requires-3 c κs =
     let w = line-numbers (c .before .before .before .line-at .ensures) (c .before .before .before .before .before .loop .inv .0) in omega arith
@@ -70,12 +52,6 @@ slice-write-seconds c =
     let w = passing-room (c .before .before .before .before .line-at .ensures) (c .before .before .before .before .before .before .loop .inv .0) e in
     omega arith
 
-add-n : tie.Need-add-n Inv-loop μ-loop
-add-n c = search needs
-
-loop-less : tie.Need-loop-less Inv-loop μ-loop
-loop-less c = search needs
-
 loop-again : tie.Need-loop-again Inv-loop μ-loop
 loop-again c =
     let v = c .before .before .before .before .before .before .loop .inv in
@@ -85,12 +61,6 @@ loop-again c =
       rw (c .before .hex22 .ensures .is) (filling-on l (v .0) e (omega arith) (v .1)),
       rw (c .hex23 .ensures .is) (filling-on l (v .0) e (omega arith) (v .2)),
     )
-
-same-length-3 : tie.Need-same-length-3 Inv-loop μ-loop
-same-length-3 c = search needs
-
-same-length-4 : tie.Need-same-length-4 Inv-loop μ-loop
-same-length-4 c = search needs
 
 returns-2 : tie.Need-returns-2 Inv-loop μ-loop
 returns-2 c =
@@ -103,23 +73,23 @@ store-pairs-spec =
     (tie.spec
     Inv-loop
     μ-loop
-    loop-holds
-    line-at-requires
+    (λ c. search needs)
+    (λ c κs. search needs)
     hex2-requires
-    same-length
-    same-length-2
+    (λ c. search needs)
+    (λ c. search needs)
     returns
-    add-hex2
+    (λ c. search needs)
     hex2-requires-2
     cast-firsts
     slice-write-firsts
-    add-hex2-2
+    (λ c. search needs)
     hex2-requires-3
     cast-seconds
     slice-write-seconds
-    add-n
-    loop-less
+    (λ c. search needs)
+    (λ c. search needs)
     loop-again
-    same-length-3
-    same-length-4
+    (λ c. search needs)
+    (λ c. search needs)
     returns-2)

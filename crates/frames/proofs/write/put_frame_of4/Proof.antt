@@ -4,18 +4,6 @@ use borrow.Author.Needs.{needs}
 use Rattle.frames.proofs.write.put_frame_of4.Statement.{statement}
 use Rattle.frames.proofs.write.put_frame_of4.Tie as tie
 
-put-hex2-requires : tie.Need-put-hex2-requires
-put-hex2-requires c κs = search needs
-
-put-hex4-requires : tie.Need-put-hex4-requires
-put-hex4-requires c κs = search needs
-
-put-line-feed-requires : tie.Need-put-line-feed-requires
-put-line-feed-requires c κs = search needs
-
-same-length : tie.Need-same-length
-same-length c = search needs
-
 returns : tie.Need-returns
 returns c =
     let end = c .before .before in
@@ -26,4 +14,4 @@ returns c =
 pub put-frame-of4-spec : {M : Type 1} → statement M
 put-frame-of4-spec =
     tie.close
-    (tie.spec put-hex2-requires put-hex4-requires put-line-feed-requires same-length returns)
+    (tie.spec (λ c κs. search needs) (λ c κs. search needs) (λ c κs. search needs) (λ c. search needs) returns)
