@@ -3,6 +3,7 @@ use mathlib.Core.Path.{_≡_, sym, _∙_}
 use lib.Seq.{length-take-le}
 use Rattle.files.specs.GraphFile.{graphFault}
 use Rattle.files.specs.Readers.{GraphHeld}
+use Rattle.files.proofs.GraphFiles.{graph-held}
 use Rattle.files.proofs.ArcTables.{held-table}
 use Rattle.lanes.proofs.Checks.{check-refused, check-judged}
 use borrow.Author.Needs.{needs}
@@ -22,7 +23,7 @@ none c = sym (read c .read-graph .ensures .says) ∙ c .if1 .left
 held : (c : tie.Else1) →
     let g = read c .read-graph in
     GraphHeld (start (read c) .args .graph .now) (g .last .1 .0) (g .last .1 .1 .0) (g .result .pairs) (g .result .source) (g .result .arcs)
-held c = read c .read-graph .ensures .held (c .if1 .left)
+held c = graph-held (read c .read-graph .ensures) (c .if1 .left)
 
 slice-aggregate-read-graph : tie.Need-slice-aggregate-read-graph
 slice-aggregate-read-graph c = search needs

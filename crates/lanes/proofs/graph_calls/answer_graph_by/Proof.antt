@@ -5,6 +5,7 @@ use native.Mathlib.Omega.{arith}
 use lib.Seq.{length-take-le}
 use Rattle.files.specs.GraphFile.{graphFault}
 use Rattle.files.specs.Readers.{GraphHeld}
+use Rattle.files.proofs.GraphFiles.{graph-held}
 use Rattle.files.proofs.ArcTables.{held-table}
 use Rattle.lanes.proofs.GraphCalls.{room-refused, file-refused, read-answered}
 use borrow.Author.Needs.{needs}
@@ -27,7 +28,7 @@ none c = sym (read c .read-graph .ensures .says) ∙ c .if2 .left
 held : (c : tie.Else2) →
     let g = read c .read-graph in
     GraphHeld (start (asked (read c)) .args .file .now) (g .last .1 .0) (g .last .1 .1 .0) (g .result .pairs) (g .result .source) (g .result .arcs)
-held c = read c .read-graph .ensures .held (c .if2 .left)
+held c = graph-held (read c .read-graph .ensures) (c .if2 .left)
 
 few : (c : tie.Else2) → read c .read-graph .result .pairs ≤ 128
 few c = held-table (held c) (none c) .pairs-few

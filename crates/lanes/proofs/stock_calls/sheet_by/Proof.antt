@@ -5,6 +5,7 @@ use native.Mathlib.Omega.{arith}
 use lib.Seq.{length-take-le}
 use Rattle.files.specs.StockFile.{stockFault}
 use Rattle.files.specs.Readers.{StockHeld}
+use Rattle.files.proofs.StockFiles.{stock-held}
 use Rattle.lanes.proofs.StockCalls.{cameras-few, stock-table, room-fault, file-fault, sheet-refused, sheet-answered}
 use borrow.Author.Needs.{needs}
 use Rattle.lanes.proofs.stock_calls.sheet_by.Statement.{statement}
@@ -26,7 +27,7 @@ none c = sym (read c .read-stock .ensures .says) ∙ c .if2 .left
 held : (c : tie.Else2) →
     let s = read c .read-stock in
     StockHeld (start (asked (read c)) .args .file .now) (s .last .1 .0) (s .last .1 .1 .0) (s .last .1 .1 .1 .0) (s .last .1 .1 .1 .1 .0) (s .result .cameras) (s .result .fits) (s .result .lit)
-held c = read c .read-stock .ensures .held (c .if2 .left)
+held c = stock-held (read c .read-stock .ensures) (c .if2 .left)
 
 few : (c : tie.Else2) → read c .read-stock .result .cameras ≤ 127
 few c = cameras-few (held c) (none c)

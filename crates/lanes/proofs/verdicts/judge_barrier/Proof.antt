@@ -8,6 +8,7 @@ use Rattle.skew.specs.Graph.{Graph}
 use Rattle.files.specs.CertificateFile.{barrierFault}
 use Rattle.files.specs.CertificateReaders.{BarrierHeld}
 use Rattle.lanes.specs.declared.Verdict.the-variants.{Yes, No}
+use Rattle.files.proofs.CertificateFiles.{barrier-held, barrier-says, barrier-small}
 use Rattle.lanes.proofs.Checks.{barrier-refused, barrier-judged}
 use borrow.Author.Needs.{needs}
 use Rattle.lanes.proofs.verdicts.judge_barrier.Statement.{statement}
@@ -24,12 +25,12 @@ abbrev graph : tie.After-read-barrier → Graph
 graph c = let a = start c .args in graphOf (a .pairs) (a .source) (a .tails .now) (a .heads .now)
 
 says : (c : tie.After-read-barrier) → c .read-barrier .result .number ≡ barrierFault (graph c) (start c .args .cert .now)
-says c = c .read-barrier .ensures .says (graph c) refl
+says c = barrier-says (c .read-barrier .ensures) (graph c) refl
 
 held : (c : tie.Else1) →
     let r = read c in
     BarrierHeld (start r .args .cert .now) (r .read-barrier .last .1 .1 .0) (r .read-barrier .result .count)
-held c = read c .read-barrier .ensures .held (c .if1 .left)
+held c = barrier-held (read c .read-barrier .ensures) (c .if1 .left)
 
 slice-aggregate-read-barrier : tie.Need-slice-aggregate-read-barrier
 slice-aggregate-read-barrier c = search needs
@@ -44,7 +45,7 @@ read-barrier-requires : tie.Need-read-barrier-requires
 read-barrier-requires c κs = search needs
 
 refused-requires : tie.Need-refused-requires
-refused-requires c κs = search needs
+refused-requires c κs = barrier-small (c .before .before .before .read-barrier .ensures)
 
 returns : tie.Need-returns
 returns c =

@@ -10,6 +10,7 @@ use Rattle.skew.specs.Graph.{Graph}
 use Rattle.files.specs.CertificateFile.{pathFault}
 use Rattle.files.specs.CertificateReaders.{PathHeld}
 use Rattle.lanes.specs.declared.Verdict.the-variants.{Yes, No}
+use Rattle.files.proofs.CertificateFiles.{path-held, path-says, path-small}
 use Rattle.lanes.proofs.Checks.{path-refused, path-judged}
 use borrow.Author.Needs.{needs}
 use Rattle.lanes.proofs.verdicts.judge_path.Statement.{statement}
@@ -26,12 +27,12 @@ abbrev graph : tie.After-read-path → Graph
 graph c = let a = start c .args in graphOf (a .pairs) (a .source) (a .tails .now) (a .heads .now)
 
 says : (c : tie.After-read-path) → c .read-path .result .number ≡ pathFault (graph c) (start c .args .cert .now)
-says c = c .read-path .ensures .says (graph c) (zip-length _ _ (start c .pre .as-long))
+says c = path-says (c .read-path .ensures) (graph c) (zip-length _ _ (start c .pre .as-long))
 
 held : (c : tie.Else1) →
     let r = read c in
     PathHeld (start r .args .cert .now) (r .read-path .last .1 .0) (length (start r .args .tails .now)) (r .read-path .result .count)
-held c = read c .read-path .ensures .held (c .if1 .left)
+held c = path-held (read c .read-path .ensures) (c .if1 .left)
 
 slice-aggregate-read-path : tie.Need-slice-aggregate-read-path
 slice-aggregate-read-path c = search needs
@@ -40,7 +41,7 @@ read-path-requires : tie.Need-read-path-requires
 read-path-requires c κs = search needs
 
 refused-requires : tie.Need-refused-requires
-refused-requires c κs = search needs
+refused-requires c κs = path-small (c .before .before .read-path .ensures)
 
 returns : tie.Need-returns
 returns c =
