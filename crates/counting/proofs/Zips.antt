@@ -2,13 +2,12 @@
 --   zip-length      as many pairs
 --   zip-low         never more than the first list has
 --   zip-within, zip-at    the pair at a place: what both lists have there
---   zip-snoc        one element more at the end of both
 --   zip-seconds     the second numbers of what was zipped
 --   firsts-length, seconds-length    as many numbers as pairs
 --   zip-ends        pairs are their first and second numbers, zipped
 --   pairs-stored    pairs stored at the front of two lists, read back
 use mathlib.Core.Path.{_≡_, refl, ap}
-use mathlib.Core.List.{List, [], _∷_, _++_}
+use mathlib.Core.List.{List, [], _∷_}
 use Prim.Native.Nat.{ℕ, zero, suc, _≤_, _<_}
 use native.Mathlib.Omega.{arith}
 use lib.ListN.{length, getD, take}
@@ -37,13 +36,6 @@ zip-within (x ∷ xs) (y ∷ ys) (suc i) h = zip-within xs ys i (omega arith)
 
 pub zip-at : (xs ys : List ℕ) (i : ℕ) → length ys ≡ length xs → i < length xs → getD (zipPairs xs ys) i noPair ≡ pair (getD xs i 0) (getD ys i 0)
 zip-at xs ys i e h = zip-within xs ys i (omega (arith, zip-length xs ys e))
-
-pub zip-snoc : (xs ys : List ℕ) (a b : ℕ) → length ys ≡ length xs → zipPairs (xs ++ a ∷ []) (ys ++ b ∷ []) ≡ zipPairs xs ys ++ pair a b ∷ []
-unfolding zipPairs
-zip-snoc [] [] a b e = refl
-zip-snoc [] (y ∷ ys) a b e = absurd (omega arith)
-zip-snoc (x ∷ xs) [] a b e = absurd (omega arith)
-zip-snoc (x ∷ xs) (y ∷ ys) a b e = ap (λ (l : List Pair). pair x y ∷ l) (zip-snoc xs ys a b (omega arith))
 
 pub zip-seconds : (xs ys : List ℕ) → length ys ≡ length xs → secondsOf (zipPairs xs ys) ≡ ys
 unfolding zipPairs secondsOf

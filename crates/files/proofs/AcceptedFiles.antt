@@ -10,6 +10,7 @@ use Prim.Native.Nat.{ℕ, _≤_, _%_}
 use lib.Dec.{eqb, leb, ltb}
 use borrow.Author.Tests.{eqb-true, leb-true, ltb-true}
 use lib.ListN.{length}
+use Rattle.formats.specs.Limits.{arcsMost, camerasMost, fitsMost, matePairsMost}
 use Rattle.counting.specs.Tests.{all}
 use Rattle.counting.specs.Pairs.{noPair, pairNamed}
 use Rattle.counting.proofs.Booleans.{and-left, and-right}
@@ -35,17 +36,17 @@ module _ (f : List ℕ) (e : graphFault f ≡ 0) where
         symmetric =
             record {
               mates-fit = graph-yes 10;
-              even = eqb-true _ _ (and-left _ (leb (length (graphIn f .arcs)) 8192) (graph-yes 8));
+              even = eqb-true _ _ (and-left _ (leb (length (graphIn f .arcs)) arcsMost) (graph-yes 8));
             };
         head-node =
             λ i h.
             ltb-true _ _ (and-right (ltb (arcAt (graphIn f) i .first) (nodes (graphIn f))) _ (all-getD (arcNamed (graphIn f)) (graphIn f .arcs) noPair i (graph-yes 9) h));
-        source-node = ltb-true _ _ (and-right (isIn 1 128 (hexAt 2 2 (firstLine f))) _ (graph-yes 5));
+        source-node = ltb-true _ _ (and-right (isIn 1 matePairsMost (hexAt 2 2 (firstLine f))) _ (graph-yes 5));
       }
 
-  pub graph-few : (graphIn f .pairs ≤ 128) × (length (graphIn f .arcs) ≤ 8192)
+  pub graph-few : (graphIn f .pairs ≤ matePairsMost) × (length (graphIn f .arcs) ≤ arcsMost)
   graph-few = (
-    leb-true _ _ (and-right (leb 1 (hexAt 2 2 (firstLine f))) _ (and-left (isIn 1 128 (hexAt 2 2 (firstLine f))) _ (graph-yes 5))),
+    leb-true _ _ (and-right (leb 1 (hexAt 2 2 (firstLine f))) _ (and-left (isIn 1 matePairsMost (hexAt 2 2 (firstLine f))) _ (graph-yes 5))),
     leb-true _ _ (and-right (eqb (length (graphIn f .arcs) % 2) 0) _ (graph-yes 8)),
   )
 
@@ -54,10 +55,10 @@ module _ (f : List ℕ) (e : stockFault f ≡ 0) where
   stock-yes : (n : ℕ) → answerTo n (stockQuestions f) ≡ true
   stock-yes n = accepted n (stockQuestions f) refl (sym (stock-asked f) ∙ e)
 
-  pub stock-few : stockIn f .cameras ≤ 127
+  pub stock-few : stockIn f .cameras ≤ camerasMost
   stock-few = leb-true _ _ (stock-yes 5)
 
-  pub fits-few : length (stockIn f .fits) ≤ 3900
+  pub fits-few : length (stockIn f .fits) ≤ fitsMost
   fits-few = leb-true _ _ (stock-yes 8)
 
   pub accepted-stock : WellFormedStock (stockIn f)

@@ -11,6 +11,7 @@ use native.Mathlib.Omega.{arith}
 use native.Mathlib.Numerals.{add-one}
 use lib.ListN.{length, getD, drop, length-append, drop-of-length-le}
 use lib.Seq.{length-sets, drop-cons}
+use Rattle.formats.specs.Kinds.{classKind, markKind, pairKind, planEnd, planKind, sheetEnd, sheetKind, stepKind}
 use Rattle.counting.specs.Pairs.{Pair, zipPairs}
 use Rattle.counting.proofs.Zips.{zip-length}
 use Rattle.frames.specs.Frames.{frame4, frame6, frameOf4}
@@ -55,31 +56,31 @@ module _ {f : ℕ → ℕ → List ℕ} {xs before : List ℕ} {at : ℕ} {out :
       }
 
 -- DOCUMENT 03'S LINES
-pub class-lines : (v : ℕ) (cs : List ℕ) → eachLine (frame6 0x32) v cs ≡ classLines v cs
+pub class-lines : (v : ℕ) (cs : List ℕ) → eachLine (frame6 classKind) v cs ≡ classLines v cs
 unfolding eachLine classLines
 class-lines v [] = refl
-class-lines v (c ∷ cs) = ap (λ (t : List ℕ). frame6 0x32 v c ++ t) (class-lines (suc v) cs)
+class-lines v (c ∷ cs) = ap (λ (t : List ℕ). frame6 classKind v c ++ t) (class-lines (suc v) cs)
 
-pub mark-lines : (u : ℕ) (ms : List ℕ) → eachLine (frame6 0x43) u ms ≡ markLines u ms
+pub mark-lines : (u : ℕ) (ms : List ℕ) → eachLine (frame6 markKind) u ms ≡ markLines u ms
 unfolding eachLine markLines
 mark-lines u [] = refl
-mark-lines u (m ∷ ms) = ap (λ (t : List ℕ). frame6 0x43 u m ++ t) (mark-lines (suc u) ms)
+mark-lines u (m ∷ ms) = ap (λ (t : List ℕ). frame6 markKind u m ++ t) (mark-lines (suc u) ms)
 
-pub path-lines : (n : ℕ) (is : List ℕ) → eachLine (λ (i : ℕ) (x : ℕ). frameOf4 0x22 x) n is ≡ pathLines is
+pub path-lines : (n : ℕ) (is : List ℕ) → eachLine (λ (i : ℕ) (x : ℕ). frameOf4 stepKind x) n is ≡ pathLines is
 unfolding eachLine pathLines
 path-lines n [] = refl
-path-lines n (i ∷ is) = ap (λ (t : List ℕ). frameOf4 0x22 i ++ t) (path-lines (suc n) is)
+path-lines n (i ∷ is) = ap (λ (t : List ℕ). frameOf4 stepKind i ++ t) (path-lines (suc n) is)
 
 pair-lines : (n : ℕ) (us vs : List ℕ) → n + length us ≡ length vs →
-    eachLine (λ (i : ℕ) (x : ℕ). frame6 0x52 x (getD vs i 0)) n us ≡ planLines (zipPairs us (drop n vs))
+    eachLine (λ (i : ℕ) (x : ℕ). frame6 pairKind x (getD vs i 0)) n us ≡ planLines (zipPairs us (drop n vs))
 unfolding eachLine planLines zipPairs
 pair-lines n [] vs h = refl
 pair-lines n (u ∷ us) vs h =
     let e : drop n vs ≡ getD vs n 0 ∷ drop (suc n) vs = drop-cons vs n 0 (omega arith) in
-    rw e (ap (λ (t : List ℕ). frame6 0x52 u (getD vs n 0) ++ t) (pair-lines (suc n) us vs (omega arith)))
+    rw e (ap (λ (t : List ℕ). frame6 pairKind u (getD vs n 0) ++ t) (pair-lines (suc n) us vs (omega arith)))
 
 pub plan-text : (us vs : List ℕ) → length vs ≡ length us →
-    frame4 0x51 (length us) ++ eachLine (λ (i : ℕ) (x : ℕ). frame6 0x52 x (getD vs i 0)) 0 us ++ frameOf4 0x5F (length us) ≡ planText (zipPairs us vs)
+    frame4 planKind (length us) ++ eachLine (λ (i : ℕ) (x : ℕ). frame6 pairKind x (getD vs i 0)) 0 us ++ frameOf4 planEnd (length us) ≡ planText (zipPairs us vs)
 plan-text us vs e = rw (pair-lines 0 us vs (omega arith), zip-length us vs e)
 
 -- SIZES
@@ -92,9 +93,9 @@ pub plan-size : (ps : List Pair) → length (planText ps) ≡ 12 + 7 * length ps
 plan-size ps = simp (length-append, hexBytes-length) (omega (arith, plan-lines-length ps))
 
 mark-lines-length : (u : ℕ) (ms : List ℕ) → length (markLines u ms) ≡ 7 * length ms
-mark-lines-length u ms = rw (mark-lines u ms) at (each-length (frame6 0x43) u ms (frame6-length 0x43))
+mark-lines-length u ms = rw (mark-lines u ms) at (each-length (frame6 markKind) u ms (frame6-length markKind))
 
-pub sheet-size : (pairs cameras : ℕ) (ms : List ℕ) → length (frame4 0x41 pairs ++ markLines 0 ms ++ frameOf4 0x4F cameras) ≡ 12 + 7 * length ms
+pub sheet-size : (pairs cameras : ℕ) (ms : List ℕ) → length (frame4 sheetKind pairs ++ markLines 0 ms ++ frameOf4 sheetEnd cameras) ≡ 12 + 7 * length ms
 sheet-size k n ms = simp (length-append, hexBytes-length) (omega (arith, mark-lines-length 0 ms))
 
 -- THREE PARTS: header, body and end frame

@@ -7,6 +7,8 @@ use mathlib.Core.List.{List, [], _∷_}
 use Prim.Native.Nat.{ℕ}
 use lib.Dec.{eqb, leb, ltb}
 use lib.ListN.{length}
+use Rattle.formats.specs.Kinds.{classKind}
+use Rattle.formats.specs.Limits.{fitsMost, stepsMost}
 use Rattle.counting.specs.Tests.{all}
 use Rattle.frames.specs.Frames.{bodyLines, pairsIn, graphForm, stockForm, pathForm, barrierForm}
 use Rattle.frames.specs.Questions.{ask, firstNo, numbersAre}
@@ -27,17 +29,17 @@ graph-asked f =
 
 pub stock-asked : (f : List ℕ) → stockFault f ≡ firstNo (stockQuestions f)
 stock-asked f =
-    let later = ask 8 (leb (length (stockIn f .fits)) 3900) ∷ pairsQuestions (stockIn f .cameras) (stockIn f .fits) (stockIn f .lit) in
+    let later = ask 8 (leb (length (stockIn f .fits)) fitsMost) ∷ pairsQuestions (stockIn f .cameras) (stockIn f .fits) (stockIn f .lit) in
     or-first (shapeQuestions stockForm f (stock.headerFits f)) later refl (shape-asked stockForm f (stock.headerFits f)) (chain-first later refl)
 
 pub path-asked : (g : Graph) (f : List ℕ) → pathFault g f ≡ firstNo (pathQuestions (length (g .arcs)) f)
 path-asked g f =
-    let later = ask 8 (leb (length (bodyLines f)) 255) ∷ ask 9 (all (λ (i : ℕ). ltb i (length (g .arcs))) (pathArcs f)) ∷ [] in
+    let later = ask 8 (leb (length (bodyLines f)) stepsMost) ∷ ask 9 (all (λ (i : ℕ). ltb i (length (g .arcs))) (pathArcs f)) ∷ [] in
     or-first (shapeQuestions pathForm f true) later refl (shape-asked pathForm f true) (chain-first later refl)
 
 pub barrier-asked : (g : Graph) (f : List ℕ) → barrierFault g f ≡ firstNo (barrierQuestions (nodes g) f)
 barrier-asked g f =
-    let later = ask 8 (eqb (length (bodyLines f)) (nodes g)) ∷ ask 9 (namesInOrder 0 (pairsIn 0x32 (bodyLines f))) ∷ [] in
+    let later = ask 8 (eqb (length (bodyLines f)) (nodes g)) ∷ ask 9 (namesInOrder 0 (pairsIn classKind (bodyLines f))) ∷ [] in
     or-first (shapeQuestions barrierForm f true) later refl (shape-asked barrierForm f true) (chain-first later refl)
 
 -- REFUSALS

@@ -13,6 +13,8 @@ use native.Mathlib.Omega.{arith}
 use lib.Dec.{eqb, ltb, leb}
 use borrow.Author.Tests.{eq-eqb, ne-eqb, ltb-true, leb-true, le-leb, lt-leb}
 use lib.ListN.{length, take}
+use Rattle.formats.specs.Kinds.{classKind, stepKind}
+use Rattle.formats.specs.Limits.{stepsMost}
 use Rattle.counting.specs.Tests.{all}
 use Rattle.counting.specs.Pairs.{Pair, pairsOf}
 use Rattle.counting.proofs.Membership.{all-getD}
@@ -56,28 +58,28 @@ no-path {f} {arcs} {bound} e h t =
 
 module _ {f : List ℕ} {number next count : ℕ} (a : ShapeAnswer pathForm f number next count) where
   pub path-shape : {arcs : List ℕ} {bound n c : ℕ} → number ≢ 0 → CertificateTold number 0 n c → PathRead f arcs arcs bound n c
-  path-shape h t = no-path (sized-shape pathForm f true (leb (length (bodyLines f)) 255) (a .says) h) h t
+  path-shape h t = no-path (sized-shape pathForm f true (leb (length (bodyLines f)) stepsMost) (a .says) h) h t
 
   module _ (e : number ≡ 0) where
     count-is : count ≡ length (bodyLines f)
     count-is = a .counts ∙ answered-none (length (bodyLines f)) e
 
-    path-eight : firstNo (pathSized f) ≡ unless (leb count 255) 8
-    path-eight = rw count-is (sized-eight pathForm f true (leb (length (bodyLines f)) 255) (sym (a .says) ∙ e))
+    path-eight : firstNo (pathSized f) ≡ unless (leb count stepsMost) 8
+    path-eight = rw count-is (sized-eight pathForm f true (leb (length (bodyLines f)) stepsMost) (sym (a .says) ∙ e))
 
-    pub path-many : {arcs : List ℕ} {bound n c : ℕ} → 255 < count → CertificateTold 8 0 n c → PathRead f arcs arcs bound n c
+    pub path-many : {arcs : List ℕ} {bound n c : ℕ} → stepsMost < count → CertificateTold 8 0 n c → PathRead f arcs arcs bound n c
     path-many m t = no-path (sym (path-eight ∙ rw (lt-leb _ _ m))) (λ q. omega arith) t
 
-    path-shaped : Shaped pathForm f next count (length (pairsIn 0x22 (bodyLines f)))
-    path-shaped = answer-shaped 0x22 0x22 refl a e
+    path-shaped : Shaped pathForm f next count (length (pairsIn stepKind (bodyLines f)))
+    path-shaped = answer-shaped stepKind stepKind refl a e
 
-    module _ (few : count ≤ 255) where
-      pub path-room : Storable f next × (length (runAt 0x22 f next) ≤ 255)
-      path-room = (body-storable path-shaped (omega arith), omega (arith, only-size path-shaped 0x22 refl refl (λ q. omega arith)))
+    module _ (few : count ≤ stepsMost) where
+      pub path-room : Storable f next × (length (runAt stepKind f next) ≤ stepsMost)
+      path-room = (body-storable path-shaped (omega arith), omega (arith, only-size path-shaped stepKind refl refl (λ q. omega arith)))
 
-      module _ {xs ys : List ℕ} {m turn : ℕ} (st : StoredNumbers 0x22 f next xs ys m turn) where
+      module _ {xs ys : List ℕ} {m turn : ℕ} (st : StoredNumbers stepKind f next xs ys m turn) where
         arcs-here : NumbersStored (pathArcs f) xs ys
-        arcs-here = subst (λ (is : List ℕ). NumbersStored is xs ys) (only-numbers path-shaped 0x22 refl refl (λ q. omega arith)) (st .numbers)
+        arcs-here = subst (λ (is : List ℕ). NumbersStored is xs ys) (only-numbers path-shaped stepKind refl refl (λ q. omega arith)) (st .numbers)
 
         arcs-back : (count ≤ length ys) × (take count ys ≡ pathArcs f)
         arcs-back = back-numbers (pathArcs f) (count-is ∙ sym (numbers-length (bodyLines f))) arcs-here
@@ -120,8 +122,8 @@ no-barrier : {f xs ys : List ℕ} {bound m n c : ℕ} → m ≡ firstNo (barrier
     BarrierRead f xs ys xs ys bound n c
 no-barrier {f} {xs} {ys} {bound} e h t =
     record {
-      answer = refused-early (barrierSized bound f) (namesInOrder 0 (pairsIn 0x32 (bodyLines f))) e h t;
-      stores = no-pairs (barrierSized bound f) (pairsIn 0x32 (bodyLines f)) xs ys (λ q. h (e ∙ q));
+      answer = refused-early (barrierSized bound f) (namesInOrder 0 (pairsIn classKind (bodyLines f))) e h t;
+      stores = no-pairs (barrierSized bound f) (pairsIn classKind (bodyLines f)) xs ys (λ q. h (e ∙ q));
     }
 
 module _ {f : List ℕ} {number next count : ℕ} (a : ShapeAnswer barrierForm f number next count) (bound : ℕ) where
@@ -138,33 +140,33 @@ module _ {f : List ℕ} {number next count : ℕ} (a : ShapeAnswer barrierForm f
     pub barrier-size : {xs ys : List ℕ} {n c : ℕ} → count ≢ bound → CertificateTold 8 0 n c → BarrierRead f xs ys xs ys bound n c
     barrier-size d t = no-barrier (sym (barrier-eight ∙ rw (ne-eqb _ _ d))) (λ q. omega arith) t
 
-    barrier-shaped : Shaped barrierForm f next count (length (pairsIn 0x32 (bodyLines f)))
-    barrier-shaped = answer-shaped 0x32 0x32 refl a e
+    barrier-shaped : Shaped barrierForm f next count (length (pairsIn classKind (bodyLines f)))
+    barrier-shaped = answer-shaped classKind classKind refl a e
 
     module _ (same : count ≡ bound) where
-      pub barrier-room : {xs ys : List ℕ} → Holds bound xs ys → Storable f next × (length (runAt 0x32 f next) ≤ length xs) × (length (runAt 0x32 f next) ≤ length ys)
+      pub barrier-room : {xs ys : List ℕ} → Holds bound xs ys → Storable f next × (length (runAt classKind f next) ≤ length xs) × (length (runAt classKind f next) ≤ length ys)
       barrier-room r =
-          let n = only-size barrier-shaped 0x32 refl refl (λ q. omega arith) in
+          let n = only-size barrier-shaped classKind refl refl (λ q. omega arith) in
           (body-storable barrier-shaped (omega arith), omega (arith, n, r), omega (arith, n, r))
 
-      module _ {xs ys us vs : List ℕ} {m turn : ℕ} (st : StoredPairs 0x32 f next xs ys us vs m turn) where
-        lines-here : (m ≡ length (pairsIn 0x32 (bodyLines f))) × PairsStored (pairsIn 0x32 (bodyLines f)) xs ys us vs
-        lines-here = stored-as (pairsIn 0x32 (bodyLines f)) st (only-pairs barrier-shaped 0x32 refl refl (λ q. omega arith))
+      module _ {xs ys us vs : List ℕ} {m turn : ℕ} (st : StoredPairs classKind f next xs ys us vs m turn) where
+        lines-here : (m ≡ length (pairsIn classKind (bodyLines f))) × PairsStored (pairsIn classKind (bodyLines f)) xs ys us vs
+        lines-here = stored-as (pairsIn classKind (bodyLines f)) st (only-pairs barrier-shaped classKind refl refl (λ q. omega arith))
 
-        pairs-counted : count ≡ length (pairsIn 0x32 (bodyLines f))
-        pairs-counted = sym (only-count barrier-shaped 0x32 refl refl (λ q. omega arith))
+        pairs-counted : count ≡ length (pairsIn classKind (bodyLines f))
+        pairs-counted = sym (only-count barrier-shaped classKind refl refl (λ q. omega arith))
 
         pub barrier-holds : Holds count us vs
-        barrier-holds = back-holds (pairsIn 0x32 (bodyLines f)) pairs-counted (lines-here .1)
+        barrier-holds = back-holds (pairsIn classKind (bodyLines f)) pairs-counted (lines-here .1)
 
         pub barrier-read : {k n c : ℕ} → k ≡ unless (namesInOrder 0 (pairsOf count us vs)) 9 → CertificateTold k count n c → BarrierRead f xs ys us vs bound n c
         barrier-read q t =
             let none : firstNo (barrierSized bound f) ≡ 0 = barrier-eight ∙ rw (eq-eqb _ _ same) in
             record {
               answer =
-                  read-through (barrierSized bound f) (namesInOrder 0 (pairsIn 0x32 (bodyLines f))) refl none
-                  (rw (back-pairs (pairsIn 0x32 (bodyLines f)) pairs-counted (lines-here .1)) at q) lines-are t;
-              stores = all-pairs (barrierSized bound f) (pairsIn 0x32 (bodyLines f)) none (lines-here .1);
+                  read-through (barrierSized bound f) (namesInOrder 0 (pairsIn classKind (bodyLines f))) refl none
+                  (rw (back-pairs (pairsIn classKind (bodyLines f)) pairs-counted (lines-here .1)) at q) lines-are t;
+              stores = all-pairs (barrierSized bound f) (pairsIn classKind (bodyLines f)) none (lines-here .1);
             }
 
 module _ {f xs ys us vs : List ℕ} {bound n c : ℕ} (r : BarrierRead f xs ys us vs bound n c) where
@@ -176,12 +178,12 @@ module _ {f xs ys us vs : List ℕ} {bound n c : ℕ} (r : BarrierRead f xs ys u
 
   pub barrier-held : n ≡ 0 → BarrierHeld f vs c
   barrier-held e =
-      let lines = pairsIn 0x32 (bodyLines f) in
+      let lines = pairsIn classKind (bodyLines f) in
       let none = first-none (barrierSized bound f) (ask 9 (namesInOrder 0 lines) ∷ []) refl (sym (r .answer .says) ∙ e) .0 in
       let shape = shape-asked barrierForm f true ∙ first-none (shapeQuestions barrierForm f true) (ask 8 (eqb (length (bodyLines f)) bound) ∷ []) refl none .0 in
       let s : Shaped barrierForm f (lineAfter f 0) (length (bodyLines f)) (length lines) =
-      answer-shaped 0x32 0x32 refl (record { says = sym shape; second-line = refl; counts = refl }) refl in
-      let k = r .answer .counts ∙ answered-none (length (bodyLines f)) e ∙ sym (only-count s 0x32 refl refl (λ q. omega arith)) in
+      answer-shaped classKind classKind refl (record { says = sym shape; second-line = refl; counts = refl }) refl in
+      let k = r .answer .counts ∙ answered-none (length (bodyLines f)) e ∙ sym (only-count s classKind refl refl (λ q. omega arith)) in
       let p = subst (λ (zs : List Pair). PairsStored zs xs ys us vs) (stored-all (barrierSized bound f) lines none) (r .stores) in
       let h = back-holds lines k p in
       record { room = h .second; classesAre = rw (← back-pairs lines k p) (sym (seconds-are h)) }

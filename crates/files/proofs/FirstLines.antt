@@ -10,6 +10,7 @@ use mathlib.Core.List.{List, [], _∷_, _++_}
 use Prim.Native.Nat.{ℕ}
 use lib.Dec.{ltb, leb}
 use lib.ListN.{length, drop}
+use Rattle.formats.specs.Limits.{fileMost}
 use Rattle.counting.proofs.Booleans.{pick-true, pick-false, by-test, true-false}
 use Rattle.frames.specs.Frames.{linesOf, isWholeFile, hexFrom, Form, pathForm, barrierForm, hasHeader}
 use Rattle.frames.specs.Questions.{Question, ask, firstNo}
@@ -23,7 +24,7 @@ use Rattle.files.proofs.Asked.{path-asked, barrier-asked}
 
 -- A FILE WITHOUT A HEADER
 abbrev noHeader : (file : List ℕ) → List Question
-noHeader f = ask 2 (leb (length f) 60000) ∷ ask 3 (isWholeFile f) ∷ ask 4 false ∷ []
+noHeader f = ask 2 (leb (length f) fileMost) ∷ ask 3 (isWholeFile f) ∷ ask 4 false ∷ []
 
 no-header-refused : (f : List ℕ) → firstNo (noHeader f) ≢ 0
 no-header-refused f e = true-false (accepted 4 (noHeader f) refl e) refl

@@ -16,6 +16,8 @@ use native.Mathlib.Omega.{arith}
 use lib.Dec.{eqb}
 use borrow.Author.Tests.{ne-eqb, eq-eqb, le-leb, lt-leb}
 use lib.ListN.{length, drop}
+use Rattle.formats.specs.Kinds.{arcKind}
+use Rattle.formats.specs.Limits.{arcsMost}
 use Rattle.counting.specs.Pairs.{Pair, pairsOf}
 use Rattle.frames.specs.Frames.{shapeFault, graphForm}
 use Rattle.frames.specs.Questions.{ask, firstNo}
@@ -78,7 +80,7 @@ module _ {f : List ℕ} {n next : ℕ} (h : HeaderAnswer graphForm f n next) whe
         pub body-read : m ≡ 0 → GraphBody f next p s count firsts
         body-read o =
             record {
-              shaped = read-shaped 0x02 0x02 refl h z b o;
+              shaped = read-shaped arcKind arcKind refl h z b o;
               none = sym body-is ∙ o;
               pairs-are = pairs-read;
               source-is = source-read;
@@ -99,7 +101,7 @@ no-graph {f} {ts} {hs} e h t =
 
 module _ {f : List ℕ} {next p s count firsts : ℕ} (g : GraphBody f next p s count firsts) where
   count-is : length (graphIn f .arcs) ≡ count
-  count-is = only-count (g .shaped) 0x02 refl refl (λ q. omega arith)
+  count-is = only-count (g .shaped) arcKind refl refl (λ q. omega arith)
 
   eight : firstNo (graphSized f) ≡ firstNo (ask 8 (arcsFit (length (graphIn f .arcs))) ∷ [])
   eight = sized-eight graphForm f (headerFits f) (arcsFit (length (graphIn f .arcs))) (g .none)
@@ -107,18 +109,18 @@ module _ {f : List ℕ} {next p s count firsts : ℕ} (g : GraphBody f next p s 
   pub graph-odd : count % 2 ≢ 0 → 8 ≡ firstNo (graphSized f)
   graph-odd d = sym (eight ∙ rw (count-is, ne-eqb _ _ d))
 
-  pub graph-many : 8192 < count → 8 ≡ firstNo (graphSized f)
+  pub graph-many : arcsMost < count → 8 ≡ firstNo (graphSized f)
   graph-many k = sym (eight ∙ rw (count-is, lt-leb _ _ k, and-false (eqb (count % 2) 0)))
 
-  pub graph-room : {ts hs : List ℕ} → count ≤ 8192 → Holds 8192 ts hs →
-      Storable f next × (length (runAt 0x02 f next) ≤ length ts) × (length (runAt 0x02 f next) ≤ length hs)
+  pub graph-room : {ts hs : List ℕ} → count ≤ arcsMost → Holds arcsMost ts hs →
+      Storable f next × (length (runAt arcKind f next) ≤ length ts) × (length (runAt arcKind f next) ≤ length hs)
   graph-room few r =
-      let n = only-size (g .shaped) 0x02 refl refl (λ q. omega arith) in
+      let n = only-size (g .shaped) arcKind refl refl (λ q. omega arith) in
       (body-storable (g .shaped) (omega arith), omega (arith, n, r), omega (arith, n, r))
 
-  module _ {ts hs us vs : List ℕ} {n turn : ℕ} (st : StoredPairs 0x02 f next ts hs us vs n turn) where
+  module _ {ts hs us vs : List ℕ} {n turn : ℕ} (st : StoredPairs arcKind f next ts hs us vs n turn) where
     arcs-here : (n ≡ length (graphIn f .arcs)) × PairsStored (graphIn f .arcs) ts hs us vs
-    arcs-here = stored-as (graphIn f .arcs) st (only-pairs (g .shaped) 0x02 refl refl (λ q. omega arith))
+    arcs-here = stored-as (graphIn f .arcs) st (only-pairs (g .shaped) arcKind refl refl (λ q. omega arith))
 
     pub graph-holds : Holds count us vs
     graph-holds = back-holds (graphIn f .arcs) (sym count-is) (arcs-here .1)
@@ -126,7 +128,7 @@ module _ {f : List ℕ} {next p s count firsts : ℕ} (g : GraphBody f next p s 
     arcs-back : pairsOf count us vs ≡ graphIn f .arcs
     arcs-back = back-pairs (graphIn f .arcs) (sym count-is) (arcs-here .1)
 
-    pub graph-read : {k number pairs source arcs : ℕ} → count % 2 ≡ 0 → count ≤ 8192 → k ≡ firstNo (arcsQuestions (2 * p) (pairsOf count us vs)) →
+    pub graph-read : {k number pairs source arcs : ℕ} → count % 2 ≡ 0 → count ≤ arcsMost → k ≡ firstNo (arcsQuestions (2 * p) (pairsOf count us vs)) →
         GraphTold k p s count number pairs source arcs → GraphRead f ts hs us vs number pairs source arcs
     graph-read even few q t =
         let none : firstNo (graphSized f) ≡ 0 = eight ∙ rw (count-is, eq-eqb _ _ even, le-leb _ _ few) in

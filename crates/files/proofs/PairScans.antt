@@ -12,6 +12,7 @@ use native.Mathlib.Numerals.{add-one}
 use lib.Dec.{eqb, ltb}
 use borrow.Author.Tests.{eq-eqb, ne-eqb, lt-ltb, le-ltb, le-leb, lt-leb}
 use lib.ListN.{getD, drop}
+use Rattle.formats.specs.Limits.{classMost}
 use Rattle.counting.specs.Tests.{all}
 use Rattle.counting.specs.Pairs.{Pair, pair, pairsOf, pairNamed}
 use Rattle.skew.specs.Graph.{mate, matesFit}
@@ -81,7 +82,7 @@ module _ {n : ℕ} {us vs : List ℕ} (r : Holds n us vs) (i : ℕ) where
     unfolding hasPair
     has-hit y e = rw (pairs-next r i h, e)
 
-    pub order-step : getD us i 0 ≡ i → getD vs i 0 ≤ 130 → namesInOrder i (from i) ≡ namesInOrder (i + 1) (from (i + 1))
+    pub order-step : getD us i 0 ≡ i → getD vs i 0 ≤ classMost → namesInOrder i (from i) ≡ namesInOrder (i + 1) (from (i + 1))
     unfolding namesInOrder
     order-step p q = rw (pairs-next r i h, eq-eqb _ _ p, le-leb _ _ q, add-one)
 
@@ -89,7 +90,7 @@ module _ {n : ℕ} {us vs : List ℕ} (r : Holds n us vs) (i : ℕ) where
     unfolding namesInOrder
     order-first p = rw (pairs-next r i h, ne-eqb _ _ p)
 
-    pub order-second : 130 < getD vs i 0 → namesInOrder i (from i) ≡ false
+    pub order-second : classMost < getD vs i 0 → namesInOrder i (from i) ≡ false
     unfolding namesInOrder
     order-second p = rw (pairs-next r i h, lt-leb _ _ p, and-false (eqb (getD us i 0) i))
 

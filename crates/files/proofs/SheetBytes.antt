@@ -13,6 +13,7 @@ use lib.Dec.{ltb, eqb}
 use lib.ListN.{length, getD, drop}
 use lib.Seq.{drop-cons, drop-drop}
 use borrow.Author.Tests.{eqb-true, eq-eqb, ltb-true, ltb-false, le-leb, lt-leb}
+use Rattle.formats.specs.Kinds.{markKind, sheetEnd, sheetKind}
 use Rattle.counting.specs.Tests.{same, upFrom, below}
 use Rattle.counting.specs.Lists.{In}
 use Rattle.counting.specs.Pairs.{Pair}
@@ -52,7 +53,7 @@ lines-past u (suc i) (m ∷ ms) r h =
     rw (e, ← drop-drop (7 * i) 7 (markLines u (m ∷ ms) ++ r)) (lines-past (suc u) i ms r (omega arith) ∙ ap (λ (k : ℕ). markLines k (drop i ms) ++ r) (omega arith))
 
 lines-inj : (u a b : ℕ) (ms ls : List ℕ) → ((x : ℕ) → In x ms → x < 256) → ((x : ℕ) → In x ls → x < 256) →
-    markLines u ms ++ frameOf4 79 a ≡ markLines u ls ++ frameOf4 79 b → ms ≡ ls
+    markLines u ms ++ frameOf4 sheetEnd a ≡ markLines u ls ++ frameOf4 sheetEnd b → ms ≡ ls
 unfolding markLines hexBytes
 lines-inj u a b [] [] h k e = refl
 lines-inj u a b [] (l ∷ ls) h k e = let z : _≡_ {A = ℕ} 70 51 = ap (λ (t : List ℕ). getD t 1 0) e in absurd (omega arith)
@@ -64,7 +65,7 @@ lines-inj u a b (m ∷ ms) (l ∷ ls) h k e =
     ap (λ (x : ℕ). x ∷ ms) one ∙ ap (λ (t : List ℕ). l ∷ t) rest
 
 text-inj : (a b c d : ℕ) (ms ls : List ℕ) → a < 256 → b < 256 → ((x : ℕ) → In x ms → x < 256) → ((x : ℕ) → In x ls → x < 256) →
-    frame4 65 a ++ markLines 0 ms ++ frameOf4 79 c ≡ frame4 65 b ++ markLines 0 ls ++ frameOf4 79 d → (a ≡ b) × (ms ≡ ls)
+    frame4 sheetKind a ++ markLines 0 ms ++ frameOf4 sheetEnd c ≡ frame4 sheetKind b ++ markLines 0 ls ++ frameOf4 sheetEnd d → (a ≡ b) × (ms ≡ ls)
 unfolding hexBytes
 text-inj a b c d ms ls p q h k e = (
   two-digits a b p q (ap (λ (t : List ℕ). getD t 2 0) e) (ap (λ (t : List ℕ). getD t 3 0) e),
@@ -122,9 +123,9 @@ sheets-alike s t h k e =
 pub alike-sheets : (s t : Stock) → alike s t ≡ true → sheetText (s .cameras) (s .fits) ≡ sheetText (t .cameras) (t .fits)
 alike-sheets s t e =
     let r = and-three (eqb (s .cameras) (t .cameras)) (eqb (greatest (s .fits)) (greatest (t .fits))) (same (marksOf (s .cameras) (s .fits)) (marksOf (t .cameras) (t .fits))) e in
-    ap (λ (z : ℕ). frame4 65 z ++ markLines 0 (marksOf (s .cameras) (s .fits)) ++ frameOf4 79 (s .cameras)) (eqb-true _ _ (r .1)) ∙
-    ap (λ (z : List ℕ). frame4 65 (greatest (t .fits)) ++ markLines 0 z ++ frameOf4 79 (s .cameras)) (same-is _ _ (r .2)) ∙
-    ap (λ (z : ℕ). frame4 65 (greatest (t .fits)) ++ markLines 0 (marksOf (t .cameras) (t .fits)) ++ frameOf4 79 z) (eqb-true _ _ (r .0))
+    ap (λ (z : ℕ). frame4 sheetKind z ++ markLines 0 (marksOf (s .cameras) (s .fits)) ++ frameOf4 sheetEnd (s .cameras)) (eqb-true _ _ (r .1)) ∙
+    ap (λ (z : List ℕ). frame4 sheetKind (greatest (t .fits)) ++ markLines 0 z ++ frameOf4 sheetEnd (s .cameras)) (same-is _ _ (r .2)) ∙
+    ap (λ (z : ℕ). frame4 sheetKind (greatest (t .fits)) ++ markLines 0 (marksOf (t .cameras) (t .fits)) ++ frameOf4 sheetEnd z) (eqb-true _ _ (r .0))
 
 pub sheet-number : (n : ℕ) (fs : List Pair) → greatest fs < 256 → hexAt 2 2 (sheetText n fs) ≡ greatest fs
 unfolding hexBytes
@@ -136,8 +137,8 @@ unfolding markLines hexBytes
 sheet-line n u fs h k =
     let l : u < length (marksOf n fs) = omega (arith, marks-length fs (below n), length-up 0 n) in
     let z : 0 + u ≡ u = omega arith in
-    let past : drop (5 + 7 * u) (sheetText n fs) ≡ frame6 67 u (markOf fs u) ++ markLines (suc u) (drop (suc u) (marksOf n fs)) ++ frameOf4 79 n =
-    rw (← drop-drop (7 * u) 5 (sheetText n fs)) (lines-past 0 u (marksOf n fs) (frameOf4 79 n) (omega arith) ∙ rw (drop-cons (marksOf n fs) u 0 l, marks-at fs 0 n u h, z)) in (
+    let past : drop (5 + 7 * u) (sheetText n fs) ≡ frame6 markKind u (markOf fs u) ++ markLines (suc u) (drop (suc u) (marksOf n fs)) ++ frameOf4 sheetEnd n =
+    rw (← drop-drop (7 * u) 5 (sheetText n fs)) (lines-past 0 u (marksOf n fs) (frameOf4 sheetEnd n) (omega arith) ∙ rw (drop-cons (marksOf n fs) u 0 l, marks-at fs 0 n u h, z)) in (
       rw (← drop-drop 2 (5 + 7 * u) (sheetText n fs), past) (two-value u k),
       rw (← drop-drop 4 (5 + 7 * u) (sheetText n fs), past) (two-value (markOf fs u) (omega (arith, mark-low fs u))),
     )

@@ -4,7 +4,7 @@
 --   StockBody, stock-body            a stock past questions 2 to 7; questions 6 and 7 refuse
 --   body-read                        what was read is such a stock
 --   stock-many                       question 8 refuses
---   fits-room, lit-room, stock-holds its fits and its lit pairs can be stored, and asked
+--   fits-room, lit-room, stock-holds    its fits and its lit pairs can be stored, and asked
 --   no-stock, stock-read             what is answered: a refusal before the pairs are stored, and the rest
 --   stock-held                       where nothing is refused, the slices hold the file's stock
 use mathlib.Core.Path.{_≡_, refl, subst, sym, _∙_}
@@ -15,6 +15,8 @@ use native.Mathlib.Omega.{arith}
 use lib.Dec.{leb}
 use borrow.Author.Tests.{le-leb, lt-leb}
 use lib.ListN.{length, drop}
+use Rattle.formats.specs.Kinds.{fitKind, litKind}
+use Rattle.formats.specs.Limits.{camerasMost, fitsMost, linesMost}
 use Rattle.counting.specs.Pairs.{Pair, pairsOf}
 use Rattle.frames.specs.Frames.{shapeFault, stockForm}
 use Rattle.frames.specs.Questions.{ask, firstNo}
@@ -40,7 +42,7 @@ pub record StockBody (f : List ℕ) (next cameras count firsts : ℕ) : Type 0 w
 
 module _ {f : List ℕ} {n next : ℕ} (h : HeaderAnswer stockForm f n next) where
   sized : {m : ℕ} → m ≡ shapeFault stockForm f (headerFits f) → m ≢ 0 → m ≡ firstNo (stockSized f)
-  sized = sized-shape stockForm f (headerFits f) (leb (length (stockIn f .fits)) 3900)
+  sized = sized-shape stockForm f (headerFits f) (leb (length (stockIn f .fits)) fitsMost)
 
   pub stock-header : n ≢ 0 → n ≡ firstNo (stockSized f)
   stock-header d = sized (shape-header h (headerFits f) d) d
@@ -56,13 +58,13 @@ module _ {f : List ℕ} {n next : ℕ} (h : HeaderAnswer stockForm f n next) whe
       cameras-read : c ≡ stockIn f .cameras
       cameras-read = x .is ∙ sym (first-number f 4 next (second-line h z) 2 2 (omega arith))
 
-      fits-are : headerFits f ≡ leb c 127
+      fits-are : headerFits f ≡ leb c camerasMost
       fits-are = rw cameras-read
 
-      pub stock-five : 127 < c → 5 ≡ firstNo (stockSized f)
+      pub stock-five : camerasMost < c → 5 ≡ firstNo (stockSized f)
       stock-five k = sized (shape-five h (headerFits f) z (fits-are ∙ lt-leb _ _ k)) (λ q. omega arith)
 
-      module _ (k : c ≤ 127) {m count firsts : ℕ} (b : BodyAnswer stockForm (drop next f) m count firsts) where
+      module _ (k : c ≤ camerasMost) {m count firsts : ℕ} (b : BodyAnswer stockForm (drop next f) m count firsts) where
         body-is : m ≡ shapeFault stockForm f (headerFits f)
         body-is = shape-body h (headerFits f) z (fits-are ∙ le-leb _ _ k) b
 
@@ -70,7 +72,7 @@ module _ {f : List ℕ} {n next : ℕ} (h : HeaderAnswer stockForm f n next) whe
         stock-body d = sized body-is d
 
         pub body-read : m ≡ 0 → StockBody f next c count firsts
-        body-read o = record { shaped = read-shaped 0x12 0x13 refl h z b o; none = sym body-is ∙ o; cameras-are = cameras-read }
+        body-read o = record { shaped = read-shaped fitKind litKind refl h z b o; none = sym body-is ∙ o; cameras-are = cameras-read }
 
 -- THE ANSWERS
 pub no-stock : {f us vs xs ys : List ℕ} {k number cameras fits lit : ℕ} → k ≡ firstNo (stockSized f) → k ≢ 0 →
@@ -90,41 +92,41 @@ module _ {f : List ℕ} {next c count firsts : ℕ} (g : StockBody f next c coun
   count-is : length (stockIn f .fits) ≡ firsts
   count-is = sym (g .shaped .firstCounts)
 
-  eight : firstNo (stockSized f) ≡ firstNo (ask 8 (leb (length (stockIn f .fits)) 3900) ∷ [])
-  eight = sized-eight stockForm f (headerFits f) (leb (length (stockIn f .fits)) 3900) (g .none)
+  eight : firstNo (stockSized f) ≡ firstNo (ask 8 (leb (length (stockIn f .fits)) fitsMost) ∷ [])
+  eight = sized-eight stockForm f (headerFits f) (leb (length (stockIn f .fits)) fitsMost) (g .none)
 
-  pub stock-many : 3900 < firsts → 8 ≡ firstNo (stockSized f)
+  pub stock-many : fitsMost < firsts → 8 ≡ firstNo (stockSized f)
   stock-many k = sym (eight ∙ rw (count-is, lt-leb _ _ k))
 
-  fits-size : length (runAt 0x12 f next) ≡ firsts
-  fits-size = first-size (g .shaped) 0x12 0x13 refl refl (λ q. omega arith) (λ q. omega arith) (λ q. omega arith)
+  fits-size : length (runAt fitKind f next) ≡ firsts
+  fits-size = first-size (g .shaped) fitKind litKind refl refl (λ q. omega arith) (λ q. omega arith) (λ q. omega arith)
 
-  pub fits-room : {us vs : List ℕ} → firsts ≤ 3900 → Holds 3900 us vs →
-      Storable f next × (length (runAt 0x12 f next) ≤ length us) × (length (runAt 0x12 f next) ≤ length vs)
+  pub fits-room : {us vs : List ℕ} → firsts ≤ fitsMost → Holds fitsMost us vs →
+      Storable f next × (length (runAt fitKind f next) ≤ length us) × (length (runAt fitKind f next) ≤ length vs)
   fits-room few r = (body-storable (g .shaped) (omega arith), omega (arith, fits-size, r), omega (arith, fits-size, r))
 
-  module _ {us vs us' vs' : List ℕ} {n turn : ℕ} (one : StoredPairs 0x12 f next us vs us' vs' n turn) where
-    lit-size : length (runAt 0x13 f turn) ≤ 8571
+  module _ {us vs us' vs' : List ℕ} {n turn : ℕ} (one : StoredPairs fitKind f next us vs us' vs' n turn) where
+    lit-size : length (runAt litKind f turn) ≤ linesMost
     lit-size =
-        let s = second-size (g .shaped) 0x12 0x13 refl refl (λ q. omega arith) (λ q. omega arith) (λ q. omega arith) (one .passed) in
+        let s = second-size (g .shaped) fitKind litKind refl refl (λ q. omega arith) (λ q. omega arith) (λ q. omega arith) (one .passed) in
         omega (arith, s, body-few (g .shaped) (omega arith), g .shaped .short)
 
-    pub lit-room : {xs ys : List ℕ} → Holds 8571 xs ys → Storable f turn × (length (runAt 0x13 f turn) ≤ length xs) × (length (runAt 0x13 f turn) ≤ length ys)
+    pub lit-room : {xs ys : List ℕ} → Holds linesMost xs ys → Storable f turn × (length (runAt litKind f turn) ≤ length xs) × (length (runAt litKind f turn) ≤ length ys)
     lit-room r = (
       storable-next (body-storable (g .shaped) (omega arith)) (one .passed),
       omega (arith, lit-size, r),
       omega (arith, lit-size, r),
     )
 
-    module _ {xs ys xs' ys' : List ℕ} {m end : ℕ} (two : StoredPairs 0x13 f turn xs ys xs' ys' m end) where
+    module _ {xs ys xs' ys' : List ℕ} {m end : ℕ} (two : StoredPairs litKind f turn xs ys xs' ys' m end) where
       fits-here : (n ≡ length (stockIn f .fits)) × PairsStored (stockIn f .fits) us vs us' vs'
       fits-here =
-          stored-as (stockIn f .fits) one (first-pairs (g .shaped) 0x12 0x13 refl refl (λ q. omega arith) (λ q. omega arith) (λ q. omega arith))
+          stored-as (stockIn f .fits) one (first-pairs (g .shaped) fitKind litKind refl refl (λ q. omega arith) (λ q. omega arith) (λ q. omega arith))
 
       lit-here : (m ≡ length (stockIn f .lit)) × PairsStored (stockIn f .lit) xs ys xs' ys'
       lit-here =
           stored-as (stockIn f .lit) two
-          (second-pairs (g .shaped) 0x12 0x13 refl refl (λ q. omega arith) (λ q. omega arith) (λ q. omega arith) (one .passed))
+          (second-pairs (g .shaped) fitKind litKind refl refl (λ q. omega arith) (λ q. omega arith) (λ q. omega arith) (one .passed))
 
       pub stock-holds : Holds n us' vs' × Holds m xs' ys'
       stock-holds = (
@@ -138,7 +140,7 @@ module _ {f : List ℕ} {next c count firsts : ℕ} (g : StockBody f next c coun
       lit-back : pairsOf m xs' ys' ≡ stockIn f .lit
       lit-back = back-pairs (stockIn f .lit) (lit-here .0) (lit-here .1)
 
-      pub stock-read : {k number cameras fits lit : ℕ} → firsts ≤ 3900 → k ≡ firstNo (pairsQuestions c (pairsOf n us' vs') (pairsOf m xs' ys')) →
+      pub stock-read : {k number cameras fits lit : ℕ} → firsts ≤ fitsMost → k ≡ firstNo (pairsQuestions c (pairsOf n us' vs') (pairsOf m xs' ys')) →
           StockTold k c n m number cameras fits lit → StockRead f us vs xs ys us' vs' xs' ys' number cameras fits lit
       stock-read few q t =
           let none : firstNo (stockSized f) ≡ 0 = eight ∙ rw (count-is, le-leb _ _ few) in

@@ -12,6 +12,8 @@ use mathlib.Core.List.{List, [], _∷_, _++_}
 use Prim.Native.Nat.{ℕ, _*_, _%_}
 use lib.Dec.{ltb, leb, eqb}
 use lib.ListN.{length}
+use Rattle.formats.specs.Kinds.{arcKind}
+use Rattle.formats.specs.Limits.{arcsMost, matePairsMost}
 use Rattle.counting.specs.Tests.{all}
 use Rattle.counting.specs.Pairs.{Pair, pairNamed}
 use Rattle.frames.specs.Frames.{isIn, orElse, unless, hexAt, firstLine, bodyLines, shapeFault, graphForm, pairsIn}
@@ -21,11 +23,11 @@ use Rattle.skew.specs.Graph.{Graph, nodes, matesFit}
 use Rattle.files.specs.Tables.{stored}
 
 abbrev pub headerFits : (file : List ℕ) → Bool
-headerFits f = isIn 1 128 (hexAt 2 2 (firstLine f)) && ltb (hexAt 4 2 (firstLine f)) (2 * hexAt 2 2 (firstLine f))
+headerFits f = isIn 1 matePairsMost (hexAt 2 2 (firstLine f)) && ltb (hexAt 4 2 (firstLine f)) (2 * hexAt 2 2 (firstLine f))
 
 abbrev pub graphIn : (file : List ℕ) → Graph
 graphIn f =
-    record { pairs = hexAt 2 2 (firstLine f); source = hexAt 4 2 (firstLine f); arcs = pairsIn 0x02 (bodyLines f) }
+    record { pairs = hexAt 2 2 (firstLine f); source = hexAt 4 2 (firstLine f); arcs = pairsIn arcKind (bodyLines f) }
 
 abbrev pub arcNamed : Graph → Pair → Bool
 arcNamed g x = ltb (x .first) (nodes g) && ltb (x .second) (nodes g)
@@ -33,15 +35,15 @@ arcNamed g x = ltb (x .first) (nodes g) && ltb (x .second) (nodes g)
 abbrev pub graphFault : (file : List ℕ) → ℕ
 graphFault f =
     orElse (shapeFault graphForm f (headerFits f))
-    (orElse (unless (eqb (length (graphIn f .arcs) % 2) 0 && leb (length (graphIn f .arcs)) 8192) 8)
+    (orElse (unless (eqb (length (graphIn f .arcs) % 2) 0 && leb (length (graphIn f .arcs)) arcsMost) 8)
     (orElse (unless (all (arcNamed (graphIn f)) (graphIn f .arcs)) 9) (unless (matesFit (graphIn f .arcs)) 10)))
 
 -- AS A LIST: 2 to 8, then the arcs are stored, then 9 and 10
 abbrev pub numbersFit : (pairs source : ℕ) → Bool
-numbersFit p s = isIn 1 128 p && ltb s (2 * p)
+numbersFit p s = isIn 1 matePairsMost p && ltb s (2 * p)
 
 abbrev pub arcsFit : (arcs : ℕ) → Bool
-arcsFit n = eqb (n % 2) 0 && leb n 8192
+arcsFit n = eqb (n % 2) 0 && leb n arcsMost
 
 abbrev pub graphSized : (file : List ℕ) → List Question
 graphSized f = sizedQuestions graphForm f (headerFits f) (arcsFit (length (graphIn f .arcs)))

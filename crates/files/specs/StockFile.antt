@@ -14,6 +14,8 @@ use mathlib.Core.List.{List, [], _∷_, _++_}
 use Prim.Native.Nat.{ℕ, suc}
 use lib.Dec.{leb, eqb}
 use lib.ListN.{length}
+use Rattle.formats.specs.Kinds.{fitKind, litKind, markKind, pairKind, planEnd, planKind, sheetEnd, sheetKind}
+use Rattle.formats.specs.Limits.{camerasMost, fitsMost}
 use Rattle.counting.specs.Tests.{all, same}
 use Rattle.counting.specs.Pairs.{Pair, pairNamed}
 use Rattle.frames.specs.Frames.{orElse, unless, hexAt, firstLine, bodyLines, shapeFault, stockForm, pairsIn, frame4, frame6, frameOf4}
@@ -23,16 +25,16 @@ use Rattle.matching.specs.Stock.{Stock, hasPair, noneShared, greatest, marksOf,
 use Rattle.files.specs.Tables.{stored}
 
 abbrev pub headerFits : (file : List ℕ) → Bool
-headerFits f = leb (hexAt 2 2 (firstLine f)) 127
+headerFits f = leb (hexAt 2 2 (firstLine f)) camerasMost
 
 abbrev pub stockIn : (file : List ℕ) → Stock
 stockIn f =
-    record { cameras = hexAt 2 2 (firstLine f); fits = pairsIn 0x12 (bodyLines f); lit = pairsIn 0x13 (bodyLines f) }
+    record { cameras = hexAt 2 2 (firstLine f); fits = pairsIn fitKind (bodyLines f); lit = pairsIn litKind (bodyLines f) }
 
 abbrev pub stockFault : (file : List ℕ) → ℕ
 stockFault f =
     orElse (shapeFault stockForm f (headerFits f))
-    (orElse (unless (leb (length (stockIn f .fits)) 3900) 8)
+    (orElse (unless (leb (length (stockIn f .fits)) fitsMost) 8)
     (orElse
     (unless (all (pairNamed (stockIn f .cameras)) (stockIn f .fits) && all (pairNamed (stockIn f .cameras)) (stockIn f .lit)) 9)
     (orElse (unless (pairsRise (stockIn f .fits)) 11)
@@ -41,7 +43,7 @@ stockFault f =
 
 -- AS A LIST: 2 to 8, then the pairs are stored, then 9 and 11 to 14
 abbrev pub stockSized : (file : List ℕ) → List Question
-stockSized f = sizedQuestions stockForm f (headerFits f) (leb (length (stockIn f .fits)) 3900)
+stockSized f = sizedQuestions stockForm f (headerFits f) (leb (length (stockIn f .fits)) fitsMost)
 
 abbrev pub pairsQuestions : (cameras : ℕ) → (fits lit : List Pair) → List Question
 pairsQuestions n fs ls =
@@ -60,10 +62,10 @@ litStored f = stored (stockSized f) (stockIn f .lit)
 -- THE STANDING SHEET
 unfoldable pub markLines : (camera : ℕ) → (marks : List ℕ) → List ℕ
 markLines u [] = []
-markLines u (m ∷ ms) = frame6 0x43 u m ++ markLines (suc u) ms
+markLines u (m ∷ ms) = frame6 markKind u m ++ markLines (suc u) ms
 
 abbrev pub sheetText : (cameras : ℕ) → List Pair → List ℕ
-sheetText n fs = frame4 0x41 (greatest fs) ++ markLines 0 (marksOf n fs) ++ frameOf4 0x4F n
+sheetText n fs = frame4 sheetKind (greatest fs) ++ markLines 0 (marksOf n fs) ++ frameOf4 sheetEnd n
 
 -- two stocks with the same sheet
 abbrev pub alike : (one other : Stock) → Bool
@@ -74,7 +76,7 @@ alike s t =
 -- A PLAN
 unfoldable pub planLines : (pairs : List Pair) → List ℕ
 planLines [] = []
-planLines (x ∷ xs) = frame6 0x52 (x .first) (x .second) ++ planLines xs
+planLines (x ∷ xs) = frame6 pairKind (x .first) (x .second) ++ planLines xs
 
 abbrev pub planText : (pairs : List Pair) → List ℕ
-planText ps = frame4 0x51 (length ps) ++ planLines ps ++ frameOf4 0x5F (length ps)
+planText ps = frame4 planKind (length ps) ++ planLines ps ++ frameOf4 planEnd (length ps)

@@ -1,6 +1,7 @@
 // Answers written at the front of a lent buffer (document 01, "Frames"): a path, a barrier, a plan, a standing sheet.
 //   put_numbered, put_arcs, put_pairs             body frames, one for each value
 //   put_path, put_barrier, put_plan, put_sheet    whole answers
+use formats::kinds;
 use frames::write::put_barrier_line;
 use frames::write::put_frame_of4;
 use frames::write::put_frame2;
@@ -10,6 +11,7 @@ ghost use mathlib.Core.Path.{_≡_};
 ghost use Prim.Native.Nat.{ℕ, _+_, _*_, _≤_};
 ghost use mathlib.Core.List.{_++_};
 ghost use lib.ListN.{length, getD};
+ghost use Rattle.formats.specs.Kinds.{pairKind, sheetEnd, sheetKind, stepKind};
 ghost use Rattle.counting.specs.Pairs.{zipPairs};
 ghost use Rattle.frames.specs.Frames.{frame4, frame6, frameOf4};
 ghost use Rattle.frames.specs.Writes.{Written};
@@ -35,13 +37,13 @@ fn put_numbered(out: &mut [u8], at: usize, kind: usize, values: &[u8]) -> usize
 // A frame for each arc number.
 fn put_arcs(out: &mut [u8], at: usize, arcs: &[usize]) -> usize
     requires { ⌜ at + 7 * length (now arcs) ≤ length (now out) ⌝ }
-    ensures { λ r. ⌜ Written (now (out .entry)) at (7 * length (now (arcs .entry))) (eachLine (λ (i : ℕ) (x : ℕ). frameOf4 0x22 x) 0 (now (arcs .entry))) (now (out .exit)) r ⌝ }
+    ensures { λ r. ⌜ Written (now (out .entry)) at (7 * length (now (arcs .entry))) (eachLine (λ (i : ℕ) (x : ℕ). frameOf4 stepKind x) 0 (now (arcs .entry))) (now (out .exit)) r ⌝ }
 {
     let mut next = at;
     let mut i: usize = 0;
     // invariant: specs/Answers Writing; falls: arcs left
     while i < arcs.len() {
-        next = put_frame_of4(out, next, 0x22, arcs[i]);
+        next = put_frame_of4(out, next, kinds::STEP, arcs[i]);
         i += 1;
     }
     next
@@ -51,13 +53,19 @@ fn put_arcs(out: &mut [u8], at: usize, arcs: &[usize]) -> usize
 fn put_pairs(out: &mut [u8], at: usize, firsts: &[u8], seconds: &[u8]) -> usize
     requires { ⌜ length (now seconds) ≡ length (now firsts) ⌝ }
     requires { ⌜ at + 7 * length (now firsts) ≤ length (now out) ⌝ }
-    ensures { λ r. ⌜ Written (now (out .entry)) at (7 * length (now (firsts .entry))) (eachLine (λ (i : ℕ) (x : ℕ). frame6 0x52 x (getD (now (seconds .entry)) i 0)) 0 (now (firsts .entry))) (now (out .exit)) r ⌝ }
+    ensures { λ r. ⌜ Written (now (out .entry)) at (7 * length (now (firsts .entry))) (eachLine (λ (i : ℕ) (x : ℕ). frame6 pairKind x (getD (now (seconds .entry)) i 0)) 0 (now (firsts .entry))) (now (out .exit)) r ⌝ }
 {
     let mut next = at;
     let mut i: usize = 0;
     // invariant: specs/Answers Writing; falls: pairs left
     while i < firsts.len() {
-        next = put_frame6(out, next, 0x52, firsts[i] as usize, seconds[i] as usize);
+        next = put_frame6(
+            out,
+            next,
+            kinds::PAIR,
+            firsts[i] as usize,
+            seconds[i] as usize,
+        );
         i += 1;
     }
     next
@@ -67,9 +75,9 @@ pub fn put_path(out: &mut [u8], arcs: &[usize]) -> usize
     requires { ⌜ 10 + 7 * length (now arcs) ≤ length (now out) ⌝ }
     ensures { λ r. ⌜ WrittenFirst (pathText (now (arcs .entry))) (now (out .entry)) (now (out .exit)) r ⌝ }
 {
-    let first = put_frame2(out, 0, 0x21);
+    let first = put_frame2(out, 0, kinds::PATH);
     let last = put_arcs(out, first, arcs);
-    put_frame_of4(out, last, 0x2F, arcs.len())
+    put_frame_of4(out, last, kinds::PATH_END, arcs.len())
 }
 
 pub fn put_barrier(out: &mut [u8], classes: &[u8]) -> usize
@@ -77,8 +85,8 @@ pub fn put_barrier(out: &mut [u8], classes: &[u8]) -> usize
     ensures { λ r. ⌜ WrittenFirst (barrierText (now (classes .entry))) (now (out .entry)) (now (out .exit)) r ⌝ }
 {
     let first = put_barrier_line(out, 0);
-    let last = put_numbered(out, first, 0x32, classes);
-    put_frame_of4(out, last, 0x3F, classes.len())
+    let last = put_numbered(out, first, kinds::CLASS, classes);
+    put_frame_of4(out, last, kinds::BARRIER_END, classes.len())
 }
 
 pub fn put_plan(out: &mut [u8], firsts: &[u8], seconds: &[u8]) -> usize
@@ -86,16 +94,16 @@ pub fn put_plan(out: &mut [u8], firsts: &[u8], seconds: &[u8]) -> usize
     requires { ⌜ 12 + 7 * length (now firsts) ≤ length (now out) ⌝ }
     ensures { λ r. ⌜ WrittenFirst (planText (zipPairs (now (firsts .entry)) (now (seconds .entry)))) (now (out .entry)) (now (out .exit)) r ⌝ }
 {
-    let first = put_frame4(out, 0, 0x51, firsts.len());
+    let first = put_frame4(out, 0, kinds::PLAN, firsts.len());
     let last = put_pairs(out, first, firsts, seconds);
-    put_frame_of4(out, last, 0x5F, firsts.len())
+    put_frame_of4(out, last, kinds::PLAN_END, firsts.len())
 }
 
 pub fn put_sheet(out: &mut [u8], pairs: usize, marks: &[u8]) -> usize
     requires { ⌜ 12 + 7 * length (now marks) ≤ length (now out) ⌝ }
-    ensures { λ r. ⌜ WrittenFirst (frame4 0x41 pairs ++ markLines 0 (now (marks .entry)) ++ frameOf4 0x4F (length (now (marks .entry)))) (now (out .entry)) (now (out .exit)) r ⌝ }
+    ensures { λ r. ⌜ WrittenFirst (frame4 sheetKind pairs ++ markLines 0 (now (marks .entry)) ++ frameOf4 sheetEnd (length (now (marks .entry)))) (now (out .entry)) (now (out .exit)) r ⌝ }
 {
-    let first = put_frame4(out, 0, 0x41, pairs);
-    let last = put_numbered(out, first, 0x43, marks);
-    put_frame_of4(out, last, 0x4F, marks.len())
+    let first = put_frame4(out, 0, kinds::SHEET, pairs);
+    let last = put_numbered(out, first, kinds::MARK, marks);
+    put_frame_of4(out, last, kinds::SHEET_END, marks.len())
 }

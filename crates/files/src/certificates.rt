@@ -6,12 +6,15 @@
 //   read_barrier    a barrier
 use crate::questions::are_below;
 use crate::questions::in_order;
+use formats::kinds;
+use formats::limits::STEPS_MOST;
 use frames::shape::barrier_shape;
 use frames::shape::path_shape;
 use frames::store::store_numbers;
 use frames::store::store_pairs;
 ghost use Prim.Native.Nat.{_≤_};
 ghost use lib.ListN.{length};
+ghost use Rattle.formats.specs.Limits.{stepsMost};
 ghost use Rattle.files.specs.Tables.{Holds};
 ghost use Rattle.files.specs.CertificateReaders.{CertificateTold, PathRead, BarrierRead};
 
@@ -32,7 +35,7 @@ fn told(number: u8, count: usize) -> Certificate
 
 // The arc numbers of a path, in the slice.
 pub fn read_path(f: &[u8], arcs: &mut [u16], bound: usize) -> Certificate
-    requires { ⌜ 255 ≤ length (now arcs) ⌝ }
+    requires { ⌜ stepsMost ≤ length (now arcs) ⌝ }
     ensures { λ r. ⌜ PathRead (now (f .entry)) (now (arcs .entry)) (now (arcs .exit)) bound (r .number) (r .count) ⌝ }
 {
     let shape = path_shape(f);
@@ -41,10 +44,10 @@ pub fn read_path(f: &[u8], arcs: &mut [u16], bound: usize) -> Certificate
         return told(number, 0);
     }
     let count = shape.count;
-    if 255 < count {
+    if STEPS_MOST < count {
         return told(8, 0);
     }
-    store_numbers(f, shape.next, 0x22, arcs);
+    store_numbers(f, shape.next, kinds::STEP, arcs);
     if !are_below(arcs, count, bound) {
         return told(9, 0);
     }
@@ -65,7 +68,7 @@ pub fn read_barrier(f: &[u8], nodes: &mut [u8], classes: &mut [u8], bound: usize
     if count != bound {
         return told(8, 0);
     }
-    store_pairs(f, shape.next, 0x32, nodes, classes);
+    store_pairs(f, shape.next, kinds::CLASS, nodes, classes);
     if !in_order(nodes, classes, count) {
         return told(9, 0);
     }

@@ -6,11 +6,15 @@
 //   read_graph     all of them, in order
 use crate::questions::are_mated;
 use crate::questions::are_named;
+use formats::kinds;
+use formats::limits::ARCS_MOST;
+use formats::limits::MATE_PAIRS_MOST;
 use frames::numbers::hex2;
 use frames::shape::graph_body;
 use frames::shape::graph_header;
 use frames::store::store_pairs;
 ghost use mathlib.Core.Path.{_≡_};
+ghost use Rattle.formats.specs.Limits.{arcsMost};
 ghost use Rattle.counting.specs.Pairs.{pairsOf};
 ghost use Rattle.frames.specs.Questions.{firstNo};
 ghost use Rattle.files.specs.GraphFile.{numbersFit, arcsQuestions};
@@ -32,7 +36,7 @@ fn header_fits(pairs: usize, source: usize) -> bool
     if pairs == 0 {
         return false;
     }
-    if 128 < pairs {
+    if MATE_PAIRS_MOST < pairs {
         return false;
     }
     source < 2 * pairs
@@ -73,7 +77,7 @@ fn told(number: u8, pairs: usize, source: usize, arcs: usize) -> Graph
 
 // The graph of a file, with its arcs in the slices.
 pub fn read_graph(f: &[u8], tails: &mut [u8], heads: &mut [u8]) -> Graph
-    requires { ⌜ Holds 8192 (now tails) (now heads) ⌝ }
+    requires { ⌜ Holds arcsMost (now tails) (now heads) ⌝ }
     ensures { λ r. ⌜ GraphRead (now (f .entry)) (now (tails .entry)) (now (heads .entry)) (now (tails .exit)) (now (heads .exit)) (r .number) (r .pairs) (r .source) (r .arcs) ⌝ }
 {
     let header = graph_header(f);
@@ -96,10 +100,10 @@ pub fn read_graph(f: &[u8], tails: &mut [u8], heads: &mut [u8]) -> Graph
     if arcs % 2 != 0 {
         return told(8, 0, 0, 0);
     }
-    if 8192 < arcs {
+    if ARCS_MOST < arcs {
         return told(8, 0, 0, 0);
     }
-    store_pairs(f, next, 0x02, tails, heads);
+    store_pairs(f, next, kinds::ARC, tails, heads);
     told(
         arcs_fault(tails, heads, arcs, 2 * pairs),
         pairs,

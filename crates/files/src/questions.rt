@@ -7,6 +7,7 @@
 //   are_below, in_order      9 of a path and of a barrier
 use arcs::node::mate_of;
 use arcs::node::wide;
+use formats::limits::CLASS_MOST;
 ghost use mathlib.Core.Path.{_≡_};
 ghost use Prim.Native.Nat.{ℕ, _≤_};
 ghost use lib.Dec.{ltb};
@@ -193,7 +194,7 @@ pub fn in_order(nodes: &[u8], classes: &[u8], count: usize) -> bool
         if nodes[i] as usize != i {
             return false;
         }
-        if 130 < classes[i] {
+        if CLASS_MOST < classes[i] {
             return false;
         }
         i += 1;

@@ -7,11 +7,15 @@ use crate::questions::are_fits;
 use crate::questions::are_named;
 use crate::questions::none_shared;
 use crate::questions::pairs_rise;
+use formats::kinds;
+use formats::limits::CAMERAS_MOST;
+use formats::limits::FITS_MOST;
 use frames::numbers::hex2;
 use frames::shape::stock_body;
 use frames::shape::stock_header;
 use frames::store::store_pairs;
 ghost use mathlib.Core.Path.{_≡_};
+ghost use Rattle.formats.specs.Limits.{fitsMost, linesMost};
 ghost use Rattle.counting.specs.Pairs.{pairsOf};
 ghost use Rattle.frames.specs.Questions.{firstNo};
 ghost use Rattle.files.specs.Tables.{Holds};
@@ -88,7 +92,7 @@ pub fn read_stock(
     ones: &mut [u8],
     others: &mut [u8],
 ) -> Stock
-    requires { ⌜ Holds 3900 (now firsts) (now seconds) × Holds 8571 (now ones) (now others) ⌝ }
+    requires { ⌜ Holds fitsMost (now firsts) (now seconds) × Holds linesMost (now ones) (now others) ⌝ }
     ensures { λ r. ⌜ StockRead (now (f .entry)) (now (firsts .entry)) (now (seconds .entry)) (now (ones .entry)) (now (others .entry)) (now (firsts .exit)) (now (seconds .exit)) (now (ones .exit)) (now (others .exit)) (r .number) (r .cameras) (r .fits) (r .lit) ⌝ }
 {
     let header = stock_header(f);
@@ -97,7 +101,7 @@ pub fn read_stock(
         return told(number, 0, 0, 0);
     }
     let cameras = hex2(f, 2);
-    if 127 < cameras {
+    if CAMERAS_MOST < cameras {
         return told(5, 0, 0, 0);
     }
     let next = header.next;
@@ -106,11 +110,11 @@ pub fn read_stock(
     if number != 0 {
         return told(number, 0, 0, 0);
     }
-    if 3900 < body.firsts {
+    if FITS_MOST < body.firsts {
         return told(8, 0, 0, 0);
     }
-    let fits = store_pairs(f, next, 0x12, firsts, seconds);
-    let lit = store_pairs(f, fits.next, 0x13, ones, others);
+    let fits = store_pairs(f, next, kinds::FIT, firsts, seconds);
+    let lit = store_pairs(f, fits.next, kinds::LIT, ones, others);
     let number = pairs_fault(
         firsts,
         seconds,

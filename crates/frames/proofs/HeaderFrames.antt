@@ -13,6 +13,7 @@ use native.Mathlib.Omega.{arith}
 use lib.Dec.{ltb}
 use lib.ListN.{length, drop, drop-of-length-le}
 use borrow.Author.Tests.{lt-ltb, ltb-true, ltb-false, le-leb, lt-leb, leb-true}
+use Rattle.formats.specs.Limits.{fileMost}
 use Rattle.counting.proofs.Booleans.{by-test, true-false}
 use Rattle.frames.specs.Frames.{linesOf, isWholeFile, hexAt, Form, isFrameOf, firstLine, restLines, hasHeader}
 use Rattle.frames.specs.Lines.{lineLength, part, lineAfter, LineAt}
@@ -50,10 +51,10 @@ module _ (k : Form) (f : List ℕ) where
   answer-refused : {n : ℕ} → n ≡ headerFault k f → n ≢ 0 → HeaderAnswer k f n 0
   answer-refused e h = record { says = e; second-line = sym (answered-refused (lineAfter f 0) h) }
 
-  pub answer-two : 60000 < length f → HeaderAnswer k f 2 0
+  pub answer-two : fileMost < length f → HeaderAnswer k f 2 0
   answer-two h = answer-refused (sym (refused 2 (headerQuestions k f) refl (lt-leb _ _ h))) (λ z. omega arith)
 
-  module _ (h : length f ≤ 60000) where
+  module _ (h : length f ≤ fileMost) where
     pub answer-three : isWholeFile f ≡ false → HeaderAnswer k f 3 0
     answer-three w = answer-refused (sym (refused 3 (headerQuestions k f) (rw (le-leb _ _ h)) w)) (λ z. omega arith)
 
@@ -72,7 +73,7 @@ module _ (k : Form) (f : List ℕ) where
 
 -- PAST THEM: what 0 says of each question
 module _ (k : Form) (f : List ℕ) (e : headerFault k f ≡ 0) where
-  pub past-short : length f ≤ 60000
+  pub past-short : length f ≤ fileMost
   past-short = leb-true _ _ (accepted 2 (headerQuestions k f) refl e)
 
   pub past-whole : isWholeFile f ≡ true

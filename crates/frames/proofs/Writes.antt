@@ -15,6 +15,7 @@ use native.Mathlib.Numerals.{add-one}
 use native.Mathlib.Nat.{zero-add}
 use lib.ListN.{length, getD, drop, set, length-append, drop-of-length-le}
 use lib.Seq.{drop-cons, sets, sets-eq}
+use Rattle.formats.specs.Kinds.{barrierKind}
 use Rattle.counting.proofs.Stores.{sets-append}
 use Rattle.frames.specs.Frames.{digitByte, hexBytes, frame2, frame4, frame6, frameOf4}
 use Rattle.frames.specs.Writes.{Written, barrierLine}
@@ -84,6 +85,6 @@ pub text-written : (l m : List ℕ) (at i : ℕ) (text : List ℕ) → i ≡ len
 text-written l m at i text h e =
     record { bytes = rw (drop-of-length-le text {i = i} (omega arith)) at e; full = refl; place = omega arith }
 
-pub barrierLine-frame : barrierLine ≡ frame2 0x31
+pub barrierLine-frame : barrierLine ≡ frame2 barrierKind
 unfolding hexBytes
 barrierLine-frame = refl

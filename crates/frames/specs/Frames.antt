@@ -27,6 +27,8 @@ use mathlib.Core.List.{List, [], _∷_, _++_}
 use Prim.Native.Nat.{ℕ, zero, suc, _+_, _*_, _-_, _/_, _%_}
 use lib.Dec.{ltb, leb, eqb}
 use lib.ListN.{length, getD, take, drop}
+use Rattle.formats.specs.Kinds.{arcKind, barrierEnd, barrierKind, classKind, fitKind, graphEnd, graphKind, litKind, pathEnd, pathKind, stepKind, stockEnd, stockKind}
+use Rattle.formats.specs.Limits.{fileMost}
 use Rattle.counting.specs.Tests.{pick, all}
 use Rattle.counting.specs.Pairs.{Pair, pair}
 
@@ -86,16 +88,16 @@ pub record Form : Type 0 where
   pub end : ℕ
 
 abbrev pub graphForm : Form
-graphForm = record { header = 0x01; headerSize = 4; bodies = 0x02 ∷ []; bodySize = 4; end = 0x0F }
+graphForm = record { header = graphKind; headerSize = 4; bodies = arcKind ∷ []; bodySize = 4; end = graphEnd }
 
 abbrev pub stockForm : Form
-stockForm = record { header = 0x11; headerSize = 2; bodies = 0x12 ∷ 0x13 ∷ []; bodySize = 4; end = 0x1F }
+stockForm = record { header = stockKind; headerSize = 2; bodies = fitKind ∷ litKind ∷ []; bodySize = 4; end = stockEnd }
 
 abbrev pub pathForm : Form
-pathForm = record { header = 0x21; headerSize = 0; bodies = 0x22 ∷ []; bodySize = 4; end = 0x2F }
+pathForm = record { header = pathKind; headerSize = 0; bodies = stepKind ∷ []; bodySize = 4; end = pathEnd }
 
 abbrev pub barrierForm : Form
-barrierForm = record { header = 0x31; headerSize = 0; bodies = 0x32 ∷ []; bodySize = 4; end = 0x3F }
+barrierForm = record { header = barrierKind; headerSize = 0; bodies = classKind ∷ []; bodySize = 4; end = barrierEnd }
 
 abbrev pub isFrameOf : (kind size : ℕ) → List ℕ → Bool
 isFrameOf k n l = eqb (kindOf l) k && eqb (length l) (2 + n)
@@ -137,7 +139,7 @@ countAgrees f = eqb (hexAt 2 4 (lastLine f)) (length (bodyLines f))
 -- 2, 3, 4, then a question of the header, then 6, 7
 abbrev pub shapeFault : Form → (file : List ℕ) → (headerFits : Bool) → ℕ
 shapeFault k f z =
-    orElse (unless (leb (length f) 60000) 2)
+    orElse (unless (leb (length f) fileMost) 2)
     (orElse (unless (isWholeFile f) 3)
     (orElse (unless (hasHeader k f) 4) (orElse (unless z 5) (orElse (unless (hasBody k f) 6) (unless (countAgrees f) 7)))))
 

@@ -19,6 +19,7 @@ use mathlib.Core.List.{List, [], _∷_, _++_}
 use Prim.Native.Nat.{ℕ, _+_, _-_, _≤_, _<_}
 use lib.Dec.{ltb, leb, eqb}
 use lib.ListN.{length, getD, take, drop}
+use Rattle.formats.specs.Limits.{fileMost}
 use Rattle.counting.specs.Tests.{pick, all}
 use Rattle.frames.specs.Frames.{linesOf, isDigit, isWholeFile, hexAt, Form, isFrameOf, firstLine, restLines, lastLine, bodyLines, hasHeader, bodiesFit, shapeFault, pairsIn}
 use Rattle.frames.specs.Questions.{Question, ask, firstNo, answered}
@@ -46,7 +47,7 @@ lastKind k = getD (k .bodies) (length (k .bodies) - 1) 0
 
 -- 2, 3 AND 4
 abbrev pub headerQuestions : Form → (file : List ℕ) → List Question
-headerQuestions k f = ask 2 (leb (length f) 60000) ∷ ask 3 (isWholeFile f) ∷ ask 4 (hasHeader k f) ∷ []
+headerQuestions k f = ask 2 (leb (length f) fileMost) ∷ ask 3 (isWholeFile f) ∷ ask 4 (hasHeader k f) ∷ []
 
 abbrev pub headerFault : Form → (file : List ℕ) → ℕ
 headerFault k f = firstNo (headerQuestions k f)
@@ -85,7 +86,7 @@ pub record BodyAnswer (k : Form) (g : List ℕ) (number count firsts : ℕ) : Ty
 
 -- 2 TO 7
 pub record Shaped (k : Form) (f : List ℕ) (next count firsts : ℕ) : Type 0 where
-  pub short : length f ≤ 60000
+  pub short : length f ≤ fileMost
   pub header : LineAt f 0 (2 + k .headerSize) next
   pub headerDigits : all isDigit (firstLine f) ≡ true
   pub rest : restLines f ≡ linesOf (drop next f)

@@ -10,6 +10,8 @@ use crate::lines::line_at;
 use crate::lines::whole;
 use crate::numbers::hex2;
 use crate::numbers::hex4;
+use formats::kinds;
+use formats::limits::FILE_MOST;
 ghost use mathlib.Core.Path.{_≡_};
 ghost use Prim.Native.Nat.{_≤_};
 ghost use lib.ListN.{length, drop};
@@ -30,39 +32,39 @@ struct Layout {
 
 // The files of document 01, "Frames".
 const GRAPH: Layout = Layout {
-    header: 0x01,
+    header: kinds::GRAPH,
     header_size: 4,
-    first: 0x02,
-    second: 0x02,
+    first: kinds::ARC,
+    second: kinds::ARC,
     body_size: 4,
-    end: 0x0F,
+    end: kinds::GRAPH_END,
 };
 
 const STOCK: Layout = Layout {
-    header: 0x11,
+    header: kinds::STOCK,
     header_size: 2,
-    first: 0x12,
-    second: 0x13,
+    first: kinds::FIT,
+    second: kinds::LIT,
     body_size: 4,
-    end: 0x1F,
+    end: kinds::STOCK_END,
 };
 
 const PATH: Layout = Layout {
-    header: 0x21,
+    header: kinds::PATH,
     header_size: 0,
-    first: 0x22,
-    second: 0x22,
+    first: kinds::STEP,
+    second: kinds::STEP,
     body_size: 4,
-    end: 0x2F,
+    end: kinds::PATH_END,
 };
 
 const BARRIER: Layout = Layout {
-    header: 0x31,
+    header: kinds::BARRIER,
     header_size: 0,
-    first: 0x32,
-    second: 0x32,
+    first: kinds::CLASS,
+    second: kinds::CLASS,
     body_size: 4,
-    end: 0x3F,
+    end: kinds::BARRIER_END,
 };
 
 // Is the line from `at` up to `end` a frame of this kind, with so many digits after the kind?
@@ -173,7 +175,7 @@ pub struct Header {
 fn header_of(f: &[u8], layout: Layout) -> Header
     ensures { λ r. ⌜ HeaderAnswer (formOf layout) (now (f .entry)) (r .number) (r .next) ⌝ }
 {
-    if 60000 < f.len() {
+    if FILE_MOST < f.len() {
         return Header { number: 2, next: 0 };
     }
     if !whole(f) {

@@ -1,12 +1,13 @@
 // Frames written into a buffer that the caller lends (document 01, "Frames"). Each function writes at `at` and answers the place right behind what it
 // wrote, so that a run of calls writes a run of frames.
-//   digit_byte, put_hex2, put_hex4, put_line_feed           the parts of a frame
-//   put_frame2, put_frame4, put_frame6, put_frame_of4       frames
-//   put_text, begins_with, put_barrier_line, begins_barrier the first line of a barrier, written and compared
+//   digit_byte, put_hex2, put_hex4, put_line_feed             the parts of a frame
+//   put_frame2, put_frame4, put_frame6, put_frame_of4         frames
+//   put_text, begins_with, put_barrier_line, begins_barrier   the first line of a barrier, written and compared
 ghost use mathlib.Core.Path.{_≡_};
 ghost use mathlib.Core.List.{[], _∷_};
 ghost use Prim.Native.Nat.{_+_, _<_, _≤_};
 ghost use lib.ListN.{length};
+ghost use Rattle.formats.specs.Kinds.{barrierKind};
 ghost use Rattle.frames.specs.Frames.{digitByte, hexBytes, frame2, frame4, frame6, frameOf4};
 ghost use Rattle.frames.specs.Writes.{Written, beginsWith, beginsBarrier};
 
@@ -121,7 +122,7 @@ fn begins_with(f: &[u8], text: &[u8]) -> bool
 
 pub fn put_barrier_line(out: &mut [u8], at: usize) -> usize
     requires { ⌜ at + 3 ≤ length (now out) ⌝ }
-    ensures { λ r. ⌜ Written (now (out .entry)) at 3 (frame2 0x31) (now (out .exit)) r ⌝ }
+    ensures { λ r. ⌜ Written (now (out .entry)) at 3 (frame2 barrierKind) (now (out .exit)) r ⌝ }
 {
     put_text(out, at, &BARRIER_LINE)
 }

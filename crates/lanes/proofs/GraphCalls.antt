@@ -14,6 +14,7 @@ use lib.Dec.{eqb}
 use borrow.Author.Tests.{eqb-true, ne-eqb, le-leb, lt-leb}
 use lib.ListN.{length, take, length-append}
 use lib.Seq.{length-sets, length-take-le}
+use Rattle.formats.specs.Limits.{room}
 use Rattle.counting.proofs.Booleans.{and-left, and-right, true-false}
 use Rattle.frames.proofs.Writes.{hexBytes-length}
 use Rattle.arcs.specs.Table.{graphOf, ArcTable}
@@ -79,7 +80,7 @@ module _ {n s : ℕ} {ts hs : List ℕ} (T : ArcTable n s ts hs) where
       let r = subst (λ (x : search.Answer). Answered (graphOf n s ts hs) x p p′ cs cs′) e h in (r .0, r .2)
 
   module _ {p before after : List ℕ} {k size : ℕ} (h : Found (graphOf n s ts hs) p k) (w : WrittenFirst (pathText (take k p)) before after size) where
-    pub path-small : size ≤ 2048
+    pub path-small : size ≤ room
     path-small = omega (arith, w .told, path-size (take k p), h .long, h .few)
 
     pub path-written : {r : Answer} → r ≡ answeredBy size outcome.Path → GraphWritten (graphOf n s ts hs) before after r
@@ -92,7 +93,7 @@ module _ {n s : ℕ} {ts hs : List ℕ} (T : ArcTable n s ts hs) where
         }
 
   module _ (cs : List ℕ) {before after : List ℕ} {size : ℕ} (w : WrittenFirst (barrierText cs) before after size) where
-    pub barrier-small : length cs ≡ 2 * n → size ≤ 2048
+    pub barrier-small : length cs ≡ 2 * n → size ≤ room
     barrier-small l = omega (arith, w .told, barrier-size cs, T .pairs-few)
 
     pub barrier-written : {r : Answer} → (hasPath (graphOf n s ts hs) ≡ false) × (cs ≡ canonical (graphOf n s ts hs)) → r ≡ answeredBy size outcome.Barrier →
@@ -106,10 +107,10 @@ module _ {n s : ℕ} {ts hs : List ℕ} (T : ArcTable n s ts hs) where
 
 -- THE CALL
 module _ (f o : List ℕ) where
-  graph-room : length o < 2048 → answerFault f o ≡ 1
+  graph-room : length o < room → answerFault f o ≡ 1
   graph-room h = rw (lt-leb _ _ h)
 
-  graph-file : 2048 ≤ length o → answerFault f o ≡ graphFault f
+  graph-file : room ≤ length o → answerFault f o ≡ graphFault f
   graph-file h = rw (le-leb _ _ h)
 
 module _ (f o : List ℕ) {r : Answer} where
@@ -123,14 +124,14 @@ module _ (f o : List ℕ) {r : Answer} where
       let z : eqb (answerFault f o) 0 ≡ true = rw e in
       record { owes = (λ y. true-false z y, λ _. (w .barrier, w .path)); outcome = rw z (w .outcome) }
 
-  pub room-refused : length o < 2048 → r ≡ refusedBy 1 → GraphAnswered f o r o
+  pub room-refused : length o < room → r ≡ refusedBy 1 → GraphAnswered f o r o
   room-refused h is = graph-refused (graph-room f o h) (λ q. omega arith) is
 
-  pub file-refused : {n : ℕ} → 2048 ≤ length o → n ≡ graphFault f → (n ≡ 0 → ⊥) → r ≡ refusedBy n → GraphAnswered f o r o
+  pub file-refused : {n : ℕ} → room ≤ length o → n ≡ graphFault f → (n ≡ 0 → ⊥) → r ≡ refusedBy n → GraphAnswered f o r o
   file-refused h e some is = graph-refused (graph-file f o h ∙ sym e) some is
 
 -- of a graph as it was read
-pub read-answered : {f ts hs o after : List ℕ} {pairs source arcs : ℕ} {r : Answer} → GraphHeld f ts hs pairs source arcs → graphFault f ≡ 0 → 2048 ≤ length o →
+pub read-answered : {f ts hs o after : List ℕ} {pairs source arcs : ℕ} {r : Answer} → GraphHeld f ts hs pairs source arcs → graphFault f ≡ 0 → room ≤ length o →
     GraphWritten (graphOf pairs source (take arcs ts) (take arcs hs)) o after r → GraphAnswered f o r after
 read-answered {f} {o = o} {after} {r = r} h none l w =
     graph-answered f o (graph-file f o l ∙ none) (subst (λ (g : Graph). GraphWritten g o after r) (held-graph h) w)

@@ -15,6 +15,8 @@ use lib.Dec.{eqb}
 use borrow.Author.Tests.{ne-eqb, le-leb, lt-leb}
 use lib.ListN.{length, take}
 use lib.Seq.{length-take-le}
+use Rattle.formats.specs.Kinds.{sheetEnd, sheetKind}
+use Rattle.formats.specs.Limits.{camerasMost, room}
 use Rattle.counting.specs.Pairs.{Pair, pairsOf}
 use Rattle.counting.proofs.Booleans.{true-false}
 use Rattle.frames.specs.Frames.{frame4, frameOf4}
@@ -44,14 +46,14 @@ module _ {n : ℕ} {us vs ls rs xs ys xs′ ys′ : List ℕ} {r : ℕ} (T : Sto
     plan-told : WrittenFirst (planText (P .pairs)) before after size
     plan-told = rw (plan-read _ (T .well-formed) P h k) at w
 
-    pub plan-small : size ≤ 2048
+    pub plan-small : size ≤ room
     plan-small = omega (arith, plan-told .told, plan-size (P .pairs), P .count, listed-few)
 
     pub plan-written : {a : Answer} → a ≡ answeredBy size outcome.Stock → PlanWritten (stockOf n us vs ls rs) before after a
     plan-written is = record { pairs = P .pairs; plan = P .plan; answers = (rw (is, plan-told .told), plan-told .bytes); outcome = rw is }
 
-module _ (k : ℕ) (ms : List ℕ) {before after : List ℕ} {size : ℕ} (w : WrittenFirst (frame4 65 k ++ markLines 0 ms ++ frameOf4 79 (length ms)) before after size) where
-  pub sheet-small : length ms ≤ 127 → size ≤ 2048
+module _ (k : ℕ) (ms : List ℕ) {before after : List ℕ} {size : ℕ} (w : WrittenFirst (frame4 sheetKind k ++ markLines 0 ms ++ frameOf4 sheetEnd (length ms)) before after size) where
+  pub sheet-small : length ms ≤ camerasMost → size ≤ room
   sheet-small h = omega (arith, w .told, sheet-size k (length ms) ms)
 
   pub sheet-written : {n : ℕ} {fs : List Pair} {a : Answer} → Sheet n fs ms k → length ms ≡ n → a ≡ answeredBy size outcome.Stock →
@@ -66,7 +68,7 @@ module _ {f us vs xs ys : List ℕ} {n k l : ℕ} (h : StockHeld f us vs xs ys n
     stock-is = rw (same, h .camerasAre, h .fitsAre, h .litAre)
 
   module _ (none : stockFault f ≡ 0) where
-    pub cameras-few : n ≤ 127
+    pub cameras-few : n ≤ camerasMost
     cameras-few = omega (arith, h .camerasAre, stock-few f none)
 
     pub stock-table : (m : ℕ) → m ≡ n → StockTable m (take k us) (take k vs) (take l xs) (take l ys)
@@ -82,10 +84,10 @@ module _ {f us vs xs ys : List ℕ} {n k l : ℕ} (h : StockHeld f us vs xs ys n
 
 -- THE CALLS
 module _ (f o : List ℕ) where
-  pub room-fault : length o < 2048 → sheetFault f o ≡ 1
+  pub room-fault : length o < room → sheetFault f o ≡ 1
   room-fault h = rw (lt-leb _ _ h)
 
-  pub file-fault : 2048 ≤ length o → sheetFault f o ≡ stockFault f
+  pub file-fault : room ≤ length o → sheetFault f o ≡ stockFault f
   file-fault h = rw (le-leb _ _ h)
 
 module _ {f o : List ℕ} {r : Answer} where
@@ -103,17 +105,17 @@ module _ {f o : List ℕ} {r : Answer} where
         let z : eqb n 0 ≡ false = ne-eqb n 0 no in
         record { told = rw (is, e, z); leaves = rw (e, z); outcome = rw (is, e, z) }
 
-  module _ {us vs xs ys : List ℕ} {n k l : ℕ} (h : StockHeld f us vs xs ys n k l) (none : stockFault f ≡ 0) (room : 2048 ≤ length o)
+  module _ {us vs xs ys : List ℕ} {n k l : ℕ} (h : StockHeld f us vs xs ys n k l) (none : stockFault f ≡ 0) (large : room ≤ length o)
       {m : ℕ} (same : m ≡ n) {after : List ℕ} where
     pub plan-answered : PlanWritten (stockOf m (take k us) (take k vs) (take l xs) (take l ys)) o after r → PlanAnswered f o r after
     plan-answered w =
-        let e : sheetFault f o ≡ 0 = file-fault f o room ∙ none in
+        let e : sheetFault f o ≡ 0 = file-fault f o large ∙ none in
         let p : isPlan (stockIn f) (w .pairs) ≡ true = subst (λ (s : Stock). isPlan s (w .pairs) ≡ true) (stock-is h m same) (w .plan) in
         let z : eqb (sheetFault f o) 0 ≡ true = rw e in
         record { owes = (λ y. true-false z y, λ _. (w .pairs, (p, w .answers))); outcome = rw z (w .outcome) }
 
     pub sheet-answered : SheetWritten m (pairsOf k us vs) o after r → SheetAnswered f o r after
     sheet-answered w =
-        let e : sheetFault f o ≡ 0 = file-fault f o room ∙ none in
+        let e : sheetFault f o ≡ 0 = file-fault f o large ∙ none in
         let v = rw (same, h .camerasAre, h .fitsAre) at (w .answers) in
         record { told = rw e (v .0); leaves = rw e (v .1); outcome = rw e (w .outcome) }

@@ -16,6 +16,8 @@ use mathlib.Core.List.{List}
 use Prim.Native.Nat.{ℕ, suc, _+_}
 use lib.Dec.{ltb, leb, eqb}
 use lib.ListN.{length}
+use Rattle.formats.specs.Kinds.{refusalKind, verdictKind}
+use Rattle.formats.specs.Limits.{room}
 use Rattle.counting.specs.Tests.{pick}
 use Rattle.counting.specs.Pairs.{Pair}
 use Rattle.frames.specs.Frames.{orElse, unless, frame4}
@@ -34,13 +36,13 @@ use Rattle.lanes.specs.declared.Verdict.the-variants.{Refused, Yes, No}
 
 -- 1, then the file's questions
 abbrev pub roomFault : (buffer : List ℕ) → ℕ
-roomFault o = unless (leb 2048 (length o)) 1
+roomFault o = unless (leb room (length o)) 1
 
 abbrev pub told : (number size : ℕ) → Told
 told n k = record { number = n; size = pick (eqb n 0) k 0 }
 
 abbrev pub refusalLine : (number : ℕ) → List ℕ
-refusalLine n = frame4 126 n
+refusalLine n = frame4 refusalKind n
 
 -- THE TALLY: a count at its largest stays there
 abbrev pub largest : ℕ
@@ -98,8 +100,8 @@ checkPost f c = pick (eqb (checkFault f c) 0) (pick (certHolds (graphIn f) c) Ye
 -- 7A01, 7A00, or 7E and the number
 abbrev pub verdictLine : Verdict → List ℕ
 verdictLine (Refused n) = refusalLine n
-verdictLine Yes = frame4 122 1
-verdictLine No = frame4 122 0
+verdictLine Yes = frame4 verdictKind 1
+verdictLine No = frame4 verdictKind 0
 
 -- A PLAN: which largest one is left free
 abbrev pub sheetFault : (file buffer : List ℕ) → ℕ

@@ -1,5 +1,4 @@
-// What the calls by value share: question 1's number, and what a call answers (document 01, "Questions put to a call").
-//   ROOM        the bytes that an answer's buffer has at least
+// What the calls by value share: what a call answers (document 01, "Questions put to a call").
 //   refused     a question answered no: nothing is written
 //   answered    what is written, by its size, and what it is
 use crate::Answer;
@@ -7,9 +6,8 @@ use crate::Outcome;
 use crate::Told;
 ghost use mathlib.Core.Path.{_≡_};
 ghost use Prim.Native.Nat.{_≤_};
+ghost use Rattle.formats.specs.Limits.{room};
 ghost use Rattle.lanes.specs.Calls.{refusedBy, answeredBy};
-
-pub const ROOM: usize = 2048;
 
 pub fn refused(number: u8) -> Answer
     ensures { λ r. ⌜ r ≡ refusedBy number ⌝ }
@@ -21,7 +19,7 @@ pub fn refused(number: u8) -> Answer
 }
 
 pub fn answered(size: usize, outcome: Outcome) -> Answer
-    requires { ⌜ size ≤ 2048 ⌝ }
+    requires { ⌜ size ≤ room ⌝ }
     ensures { λ r. ⌜ r ≡ answeredBy size outcome ⌝ }
 {
     Answer {

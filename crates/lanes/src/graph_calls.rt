@@ -3,16 +3,18 @@
 //   write_graph        past the questions: what is found, written
 use crate::Answer;
 use crate::Outcome;
-use crate::calls::ROOM;
 use crate::calls::answered;
 use crate::calls::refused;
 use files::answers::put_barrier;
 use files::answers::put_path;
 use files::graphs::read_graph;
+use formats::limits::ARCS_MOST;
+use formats::limits::ROOM;
 use search::answer::path_or_barrier;
 ghost use mathlib.Core.Path.{_≡_};
 ghost use Prim.Native.Nat.{_*_, _≤_};
 ghost use lib.ListN.{length};
+ghost use Rattle.formats.specs.Limits.{room};
 ghost use Rattle.arcs.specs.Table.{graphOf, ArcTable};
 ghost use Rattle.lanes.specs.GraphCalls.{GraphWritten, GraphAnswered};
 
@@ -28,7 +30,7 @@ fn write_graph(
 ) -> Answer
     requires { ⌜ ArcTable pairs source (now tails) (now heads) ⌝ }
     requires { ⌜ (length (now class) ≡ 2 * pairs) × (2 * pairs ≤ length (now path)) ⌝ }
-    requires { ⌜ 2048 ≤ length (now out) ⌝ }
+    requires { ⌜ room ≤ length (now out) ⌝ }
     ensures { λ r. ⌜ GraphWritten (graphOf pairs source (now (tails .entry)) (now (heads .entry))) (now (out .entry)) (now (out .exit)) r ⌝ }
 {
     let found = path_or_barrier(pairs, source, tails, heads, class, path);
@@ -47,8 +49,8 @@ pub fn answer_graph_by(file: &[u8], out: &mut [u8]) -> Answer
     if out.len() < ROOM {
         return refused(1);
     }
-    let mut tails = [0u8; 8192];
-    let mut heads = [0u8; 8192];
+    let mut tails = [0u8; ARCS_MOST];
+    let mut heads = [0u8; ARCS_MOST];
     let g = read_graph(file, &mut tails, &mut heads);
     let number = g.number;
     if number != 0 {

@@ -12,6 +12,7 @@ pub mod tallies;
 mod verdicts;
 
 use files::graphs::read_graph;
+use formats::limits::ARCS_MOST;
 use graph_calls::answer_graph_by;
 use stock_calls::plan_by;
 use stock_calls::sheet_by;
@@ -90,8 +91,8 @@ pub fn sheet(file: &[u8], out: &mut [u8], tally: &mut Tally) -> Told
 pub fn check(graph: &[u8], cert: &[u8]) -> Verdict
     ensures { λ r. ⌜ r ≡ checkPost (now (graph .entry)) (now (cert .entry)) ⌝ }
 {
-    let mut tails = [0u8; 8192];
-    let mut heads = [0u8; 8192];
+    let mut tails = [0u8; ARCS_MOST];
+    let mut heads = [0u8; ARCS_MOST];
     let g = read_graph(graph, &mut tails, &mut heads);
     let number = g.number;
     if number != 0 {

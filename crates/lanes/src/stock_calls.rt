@@ -3,14 +3,18 @@
 //   write_plan, write_sheet    past the questions: what is found, written
 use crate::Answer;
 use crate::Outcome;
-use crate::calls::ROOM;
 use crate::calls::answered;
 use crate::calls::refused;
 use files::answers::put_plan;
 use files::answers::put_sheet;
 use files::stocks::read_stock;
+use formats::limits::CAMERAS_MOST;
+use formats::limits::FITS_MOST;
+use formats::limits::LINES_MOST;
+use formats::limits::ROOM;
 ghost use Prim.Native.Nat.{_≤_};
 ghost use lib.ListN.{length};
+ghost use Rattle.formats.specs.Limits.{room};
 ghost use Rattle.counting.specs.Pairs.{zipPairs};
 ghost use Rattle.pairing.specs.Table.{stockOf};
 ghost use Rattle.pairing.specs.Plan.{StockTable};
@@ -26,11 +30,11 @@ fn write_plan(
     lit_seconds: &[u8],
 ) -> Answer
     requires { ⌜ StockTable cameras (now firsts) (now seconds) (now «lit_firsts») (now «lit_seconds») ⌝ }
-    requires { ⌜ 2048 ≤ length (now out) ⌝ }
+    requires { ⌜ room ≤ length (now out) ⌝ }
     ensures { λ r. ⌜ PlanWritten (stockOf cameras (now (firsts .entry)) (now (seconds .entry)) (now («lit_firsts» .entry)) (now («lit_seconds» .entry))) (now (out .entry)) (now (out .exit)) r ⌝ }
 {
-    let mut pair_firsts = [0u8; 127];
-    let mut pair_seconds = [0u8; 127];
+    let mut pair_firsts = [0u8; CAMERAS_MOST];
+    let mut pair_seconds = [0u8; CAMERAS_MOST];
     let count = pairing::plan::plan(
         cameras,
         firsts,
@@ -56,7 +60,7 @@ fn write_sheet(
     lit_seconds: &[u8],
 ) -> Answer
     requires { ⌜ StockTable (length (now marks)) (now firsts) (now seconds) (now «lit_firsts») (now «lit_seconds») ⌝ }
-    requires { ⌜ 2048 ≤ length (now out) ⌝ }
+    requires { ⌜ room ≤ length (now out) ⌝ }
     ensures { λ r. ⌜ SheetWritten (length (now (marks .entry))) (zipPairs (now (firsts .entry)) (now (seconds .entry))) (now (out .entry)) (now (out .exit)) r ⌝ }
 {
     let pairs = pairing::plan::sheet(firsts, seconds, lit_firsts, lit_seconds, marks);
@@ -69,10 +73,10 @@ pub fn plan_by(file: &[u8], out: &mut [u8]) -> Answer
     if out.len() < ROOM {
         return refused(1);
     }
-    let mut firsts = [0u8; 3900];
-    let mut seconds = [0u8; 3900];
-    let mut lit_firsts = [0u8; 8571];
-    let mut lit_seconds = [0u8; 8571];
+    let mut firsts = [0u8; FITS_MOST];
+    let mut seconds = [0u8; FITS_MOST];
+    let mut lit_firsts = [0u8; LINES_MOST];
+    let mut lit_seconds = [0u8; LINES_MOST];
     let stock = read_stock(
         file,
         &mut firsts,
@@ -102,10 +106,10 @@ pub fn sheet_by(file: &[u8], out: &mut [u8]) -> Answer
     if out.len() < ROOM {
         return refused(1);
     }
-    let mut firsts = [0u8; 3900];
-    let mut seconds = [0u8; 3900];
-    let mut lit_firsts = [0u8; 8571];
-    let mut lit_seconds = [0u8; 8571];
+    let mut firsts = [0u8; FITS_MOST];
+    let mut seconds = [0u8; FITS_MOST];
+    let mut lit_firsts = [0u8; LINES_MOST];
+    let mut lit_seconds = [0u8; LINES_MOST];
     let stock = read_stock(
         file,
         &mut firsts,
@@ -117,7 +121,7 @@ pub fn sheet_by(file: &[u8], out: &mut [u8]) -> Answer
     if number != 0 {
         return refused(number);
     }
-    let mut marks = [0u8; 127];
+    let mut marks = [0u8; CAMERAS_MOST];
     let cameras = stock.cameras;
     let fits = stock.fits;
     let lit = stock.lit;

@@ -5,6 +5,7 @@
 use crate::Verdict;
 use files::certificates::read_barrier;
 use files::certificates::read_path;
+use formats::limits::STEPS_MOST;
 use frames::write::begins_barrier;
 use judging::barrier::is_barrier;
 use judging::path::is_wanted;
@@ -34,7 +35,7 @@ fn judge_path(cert: &[u8], pairs: usize, source: usize, tails: &[u8], heads: &[u
     requires { ⌜ ArcTable pairs source (now tails) (now heads) ⌝ }
     ensures { λ r. ⌜ r ≡ pathVerdict (graphOf pairs source (now (tails .entry)) (now (heads .entry))) (now (cert .entry)) ⌝ }
 {
-    let mut arcs = [0u16; 255];
+    let mut arcs = [0u16; STEPS_MOST];
     let path = read_path(cert, &mut arcs, tails.len());
     let number = path.number;
     if number != 0 {

@@ -12,6 +12,7 @@ use native.Mathlib.Omega.{arith}
 use borrow.Author.Tests.{le-leb, eqb-true, eqb-false, ne-eqb}
 use lib.Dec.{eqb}
 use lib.ListN.{length, drop, length-append}
+use Rattle.formats.specs.Limits.{room}
 use Rattle.io.proofs.Counting.{counts}
 use Rattle.counting.specs.Tests.{pick}
 use Rattle.counting.proofs.Booleans.{true-false}
@@ -84,16 +85,16 @@ module _ (f : List ℕ) {o v : List ℕ} {r : Told} where
   graph-answer true e g =
       let q = g .1 e in (pathText (q .0), ((λ p. absurd (true-false e p), λ _. (q .0, (q .1 .0, refl))), q .1 .1))
 
-module _ (f : List ℕ) {o v w : List ℕ} {r : Told} {s : ℕ} (h : 2048 ≤ length o) where
+module _ (f : List ℕ) {o v w : List ℕ} {r : Told} {s : ℕ} (h : room ≤ length o) where
   pub graph-prints : GraphOwes f o r v → Shows r v w s → Prints (GraphText f) o w s
   graph-prints g k =
-      let e : answerFault f o ≡ graphFault f = rw (le-leb 2048 (length o) h) in
+      let e : answerFault f o ≡ graphFault f = rw (le-leb room (length o) h) in
       subst (λ (n : ℕ). Prints (RefusedOr n (GraphAnswer f)) o w s) e
       (shown (g .0) (λ z. graph-answer f (hasPath (graphIn f)) refl (g .1 z)) k)
 
   pub plan-prints : PlanOwes f o r v → Shows r v w s → Prints (PlanText f) o w s
   plan-prints g k =
-      let e : sheetFault f o ≡ stockFault f = rw (le-leb 2048 (length o) h) in
+      let e : sheetFault f o ≡ stockFault f = rw (le-leb room (length o) h) in
       subst (λ (n : ℕ). Prints (RefusedOr n (PlanAnswer f)) o w s) e
       (shown (g .0) (λ z. let q = g .1 z in (planText (q .0), ((q .0, (q .1 .0, refl)), q .1 .1))) k)
 
@@ -112,8 +113,8 @@ module _ {n : ℕ} (t : List ℕ) {o v w : List ℕ} {r : Told} {s : ℕ} (p : r
   pub one-prints : PrintsOne (pick (eqb n 0) t (refusalLine n)) o w s
   one-prints = one-text (eqb n 0) refl (shown one-refused one-answered k)
 
-pub sheet-prints : (f : List ℕ) {o v w : List ℕ} {r : Told} {s : ℕ} → 2048 ≤ length o → r ≡ sheetPost f o → v ≡ sheetLeaves f o → Shows r v w s →
+pub sheet-prints : (f : List ℕ) {o v w : List ℕ} {r : Told} {s : ℕ} → room ≤ length o → r ≡ sheetPost f o → v ≡ sheetLeaves f o → Shows r v w s →
     PrintsOne (sheetPrinted f) o w s
 sheet-prints f {o} {w = w} {s = s} h p q k =
-    let e : sheetFault f o ≡ stockFault f = rw (le-leb 2048 (length o) h) in
+    let e : sheetFault f o ≡ stockFault f = rw (le-leb room (length o) h) in
     subst (λ (n : ℕ). PrintsOne (pick (eqb n 0) (sheetOfFile f) (refusalLine n)) o w s) e (one-prints (sheetOfFile f) p q k)

@@ -2,6 +2,7 @@
 // refusal or of the check. Each function answers how many bytes there are to print.
 //   print_graph, print_plan, print_sheet, print_check    what each program prints
 //   show, show_verdict                                   what a call told, and what the check says
+use formats::kinds;
 use frames::write::put_frame4;
 use lanes::Told;
 use lanes::Verdict;
@@ -11,6 +12,7 @@ use lanes::stock_calls::plan_by;
 use lanes::stock_calls::sheet_by;
 ghost use Prim.Native.Nat.{_≤_};
 ghost use lib.ListN.{length};
+ghost use Rattle.formats.specs.Limits.{room};
 ghost use Rattle.lanes.specs.Entry.{verdictLine};
 ghost use Rattle.lanes_print.specs.Printed.{Shows, Prints, PrintsOne, GraphText, PlanText, sheetPrinted, verdictPrinted};
 
@@ -22,7 +24,7 @@ fn show(out: &mut [u8], told: Told) -> usize
     if told.number == 0 {
         return told.size as usize;
     }
-    put_frame4(out, 0, 0x7E, told.number as usize)
+    put_frame4(out, 0, kinds::REFUSAL, told.number as usize)
 }
 
 // The check's line.
@@ -31,14 +33,14 @@ fn show_verdict(out: &mut [u8], verdict: Verdict) -> usize
     ensures { λ r. ⌜ PrintsOne (verdictLine verdict) (now (out .entry)) (now (out .exit)) r ⌝ }
 {
     match verdict {
-        Verdict::Refused(number) => put_frame4(out, 0, 0x7E, number as usize),
-        Verdict::Yes => put_frame4(out, 0, 0x7A, 1),
-        Verdict::No => put_frame4(out, 0, 0x7A, 0),
+        Verdict::Refused(number) => put_frame4(out, 0, kinds::REFUSAL, number as usize),
+        Verdict::Yes => put_frame4(out, 0, kinds::VERDICT, 1),
+        Verdict::No => put_frame4(out, 0, kinds::VERDICT, 0),
     }
 }
 
 pub fn print_graph(file: &[u8], out: &mut [u8]) -> usize
-    requires { ⌜ 2048 ≤ length (now out) ⌝ }
+    requires { ⌜ room ≤ length (now out) ⌝ }
     ensures { λ r. ⌜ Prints (GraphText (now (file .entry))) (now (out .entry)) (now (out .exit)) r ⌝ }
 {
     let answer = answer_graph_by(file, out);
@@ -46,7 +48,7 @@ pub fn print_graph(file: &[u8], out: &mut [u8]) -> usize
 }
 
 pub fn print_plan(file: &[u8], out: &mut [u8]) -> usize
-    requires { ⌜ 2048 ≤ length (now out) ⌝ }
+    requires { ⌜ room ≤ length (now out) ⌝ }
     ensures { λ r. ⌜ Prints (PlanText (now (file .entry))) (now (out .entry)) (now (out .exit)) r ⌝ }
 {
     let answer = plan_by(file, out);
@@ -54,7 +56,7 @@ pub fn print_plan(file: &[u8], out: &mut [u8]) -> usize
 }
 
 pub fn print_sheet(file: &[u8], out: &mut [u8]) -> usize
-    requires { ⌜ 2048 ≤ length (now out) ⌝ }
+    requires { ⌜ room ≤ length (now out) ⌝ }
     ensures { λ r. ⌜ PrintsOne (sheetPrinted (now (file .entry))) (now (out .entry)) (now (out .exit)) r ⌝ }
 {
     let answer = sheet_by(file, out);
@@ -62,7 +64,7 @@ pub fn print_sheet(file: &[u8], out: &mut [u8]) -> usize
 }
 
 pub fn print_check(graph: &[u8], cert: &[u8], out: &mut [u8]) -> usize
-    requires { ⌜ 2048 ≤ length (now out) ⌝ }
+    requires { ⌜ room ≤ length (now out) ⌝ }
     ensures { λ r. ⌜ PrintsOne (verdictPrinted (now (graph .entry)) (now (cert .entry))) (now (out .entry)) (now (out .exit)) r ⌝ }
 {
     show_verdict(out, check(graph, cert))

@@ -1,6 +1,5 @@
 -- What is promised of every stock that questions 9 and 11 to 14 accept (document 01, "Questions put to a call"; document 03's promises, over stocks
 -- instead of files). Each promise is a type; a proof of the type is the theorem.
---   pairNamed n x          both numbers of the pair are below n
 --   WellFormedStock s      what those questions settle
 --   GreatestIs             the greatest number of pairs is the most that a pairing has, and some plan exists
 --   LeftBySome fs u        some largest pairing leaves the camera over

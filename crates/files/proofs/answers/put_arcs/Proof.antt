@@ -1,6 +1,7 @@
 -- `files::answers::put_arcs` meets its contract: i lines are written.
 use Prim.Native.Nat.{ℕ, _-_}
 use lib.ListN.{length}
+use Rattle.formats.specs.Kinds.{stepKind}
 use Rattle.frames.specs.Frames.{frameOf4}
 use Rattle.frames.proofs.Writes.{frameOf4-length}
 use Rattle.files.specs.Answers.{Writing}
@@ -10,7 +11,7 @@ use Rattle.files.proofs.answers.put_arcs.Tie as tie
 use borrow.Author.Needs.{needs}
 
 abbrev Inv-loop : tie.InvT-loop
-Inv-loop out₀ at arcs next₀ i₀ out next i = Writing (λ (i : ℕ) (x : ℕ). frameOf4 0x22 x) arcs out₀ at out next i
+Inv-loop out₀ at arcs next₀ i₀ out next i = Writing (λ (i : ℕ) (x : ℕ). frameOf4 stepKind x) arcs out₀ at out next i
 
 abbrev μ-loop : tie.MeasureT-loop
 μ-loop out₀ at arcs next₀ i₀ out next i = length arcs - i
@@ -23,7 +24,7 @@ loop-again c =
     writing-step (c .before .before .before .before .before .before .loop .inv) (c .before .before .before .before .before .loop-test .taken) (c .before .before .put-frame-of4 .ensures)
 
 returns : tie.Need-returns Inv-loop μ-loop
-returns c = writing-end (c .before .loop .inv) (λ i x. frameOf4-length 0x22 x) (c .loop-test .left)
+returns c = writing-end (c .before .loop .inv) (λ i x. frameOf4-length stepKind x) (c .loop-test .left)
 
 pub put-arcs-spec : {M : Type 1} → statement M
 put-arcs-spec =

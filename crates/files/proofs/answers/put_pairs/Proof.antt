@@ -2,6 +2,7 @@
 use Prim.Native.Nat.{ℕ, _-_}
 use native.Mathlib.Omega.{arith}
 use lib.ListN.{length, getD}
+use Rattle.formats.specs.Kinds.{pairKind}
 use Rattle.frames.specs.Frames.{frame6}
 use Rattle.frames.proofs.Writes.{frame6-length}
 use Rattle.files.specs.Answers.{Writing}
@@ -11,7 +12,7 @@ use Rattle.files.proofs.answers.put_pairs.Statement.{statement}
 use Rattle.files.proofs.answers.put_pairs.Tie as tie
 
 abbrev Inv-loop : tie.InvT-loop
-Inv-loop out₀ at firsts seconds next₀ i₀ out next i = Writing (λ (i : ℕ) (x : ℕ). frame6 0x52 x (getD seconds i 0)) firsts out₀ at out next i
+Inv-loop out₀ at firsts seconds next₀ i₀ out next i = Writing (λ (i : ℕ) (x : ℕ). frame6 pairKind x (getD seconds i 0)) firsts out₀ at out next i
 
 abbrev μ-loop : tie.MeasureT-loop
 μ-loop out₀ at firsts seconds next₀ i₀ out next i = length firsts - i
@@ -30,7 +31,7 @@ loop-again c =
     writing-step (c .before .before .before .before .before .before .before .loop .inv) (c .before .before .before .before .before .before .loop-test .taken) (c .before .before .put-frame6 .ensures)
 
 returns : tie.Need-returns Inv-loop μ-loop
-returns c = writing-end (c .before .loop .inv) (λ i x. frame6-length 0x52 x _) (c .loop-test .left)
+returns c = writing-end (c .before .loop .inv) (λ i x. frame6-length pairKind x _) (c .loop-test .left)
 
 pub put-pairs-spec : {M : Type 1} → statement M
 put-pairs-spec =

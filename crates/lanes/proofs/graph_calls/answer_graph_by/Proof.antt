@@ -3,6 +3,7 @@ use mathlib.Core.Path.{_≡_, sym, _∙_}
 use Prim.Native.Nat.{_≤_}
 use native.Mathlib.Omega.{arith}
 use lib.Seq.{length-take-le}
+use Rattle.formats.specs.Limits.{matePairsMost}
 use Rattle.files.specs.GraphFile.{graphFault}
 use Rattle.files.specs.Readers.{GraphHeld}
 use Rattle.files.proofs.GraphFiles.{graph-held}
@@ -30,7 +31,7 @@ held : (c : tie.Else2) →
     GraphHeld (start (asked (read c)) .args .file .now) (g .last .1 .0) (g .last .1 .1 .0) (g .result .pairs) (g .result .source) (g .result .arcs)
 held c = graph-held (read c .read-graph .ensures) (c .if2 .left)
 
-few : (c : tie.Else2) → read c .read-graph .result .pairs ≤ 128
+few : (c : tie.Else2) → read c .read-graph .result .pairs ≤ matePairsMost
 few c = held-table (held c) (none c) .pairs-few
 
 refused-requires : tie.Need-refused-requires

@@ -3,6 +3,7 @@ use mathlib.Core.Path.{_≡_, sym, _∙_}
 use Prim.Native.Nat.{_≤_}
 use native.Mathlib.Omega.{arith}
 use lib.Seq.{length-take-le}
+use Rattle.formats.specs.Limits.{camerasMost}
 use Rattle.files.specs.StockFile.{stockFault}
 use Rattle.files.specs.Readers.{StockHeld}
 use Rattle.files.proofs.StockFiles.{stock-held}
@@ -29,7 +30,7 @@ held : (c : tie.Else2) →
     StockHeld (start (asked (read c)) .args .file .now) (s .last .1 .0) (s .last .1 .1 .0) (s .last .1 .1 .1 .0) (s .last .1 .1 .1 .1 .0) (s .result .cameras) (s .result .fits) (s .result .lit)
 held c = stock-held (read c .read-stock .ensures) (c .if2 .left)
 
-few : (c : tie.Else2) → read c .read-stock .result .cameras ≤ 127
+few : (c : tie.Else2) → read c .read-stock .result .cameras ≤ camerasMost
 few c = cameras-few (held c) (none c)
 
 refused-requires : tie.Need-refused-requires
