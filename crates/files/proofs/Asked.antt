@@ -1,6 +1,6 @@
 -- Document 03's chains of questions, as lists: each fault is the number of the first question of its list that is answered no.
 --   graph-asked, stock-asked, path-asked, barrier-asked     one for each kind of file
---   graph-refusal                                           a graph's refusal is 0 or one of the list's numbers
+--   graph-refusal, stock-refusal                            a refusal is 0 or one of the list's numbers: what holds of those holds of it
 use mathlib.Core.Path.{_≡_, refl}
 use mathlib.Core.Bool.{Bool, true}
 use mathlib.Core.List.{List, [], _∷_}
@@ -43,5 +43,8 @@ barrier-asked g f =
     or-first (shapeQuestions barrierForm f true) later refl (shape-asked barrierForm f true) (chain-first later refl)
 
 -- REFUSALS
+pub stock-refusal : (f : List ℕ) (p : ℕ → Bool) → p 0 ≡ true → numbersAre p (stockQuestions f) ≡ true → p (stockFault f) ≡ true
+stock-refusal f p z h = rw (stock-asked f) (refusal-is p (stockQuestions f) z h)
+
 pub graph-refusal : (f : List ℕ) (p : ℕ → Bool) → p 0 ≡ true → numbersAre p (graphQuestions f) ≡ true → p (graphFault f) ≡ true
 graph-refusal f p z h = rw (graph-asked f) (refusal-is p (graphQuestions f) z h)

@@ -6,6 +6,7 @@
 --   StockCalls         what the stock calls answer by value, each in one record
 --   Promise            what is promised of every file: demands 2 and 3, and the marked set
 --   BytePromise        five of them as document 03 states them
+--   Known              known graphs and stocks as files, byte for byte
 pub mod Entry
 pub mod Verdicts
 pub mod Calls
@@ -13,3 +14,4 @@ pub mod GraphCalls
 pub mod StockCalls
 pub mod Promise
 pub mod BytePromise
+pub mod Known

@@ -1,0 +1,55 @@
+-- Known graphs and stocks as files (document 01, "Known graphs and stocks"): what is accepted, refused, checked and written, byte for byte. So the
+-- promises, which speak of accepted files, speak of these.
+--   g1File, g4File, g5File, s5File    G1, G4, G5 and S5
+--   KnownFiles                        what the questions and the check say of them, and of files that are cut short
+--   KnownTexts                        G1's answer, the sheets of S1 and S3 and the plan of S5, as the document prints them
+use mathlib.Core.Path.{_≡_}
+use mathlib.Core.List.{List, [], _∷_, _++_}
+use Prim.Native.Nat.{ℕ}
+use Rattle.formats.specs.Kinds.{arcKind, fitKind, graphEnd, graphKind, litKind, stockEnd, stockKind}
+use Rattle.frames.specs.Frames.{frame4, frame6, frameOf4}
+use Rattle.skew.specs.Graph.{canonical}
+use Rattle.files.specs.GraphFile.{graphIn, graphFault}
+use Rattle.files.specs.StockFile.{stockIn, stockFault, planText, sheetText}
+use Rattle.files.specs.CertificateFile.{pathText, barrierText}
+use Rattle.lanes.specs.Entry.{checkPost}
+use Rattle.lanes.specs.Promise.{arc, graphOf, g4, g5}
+use Rattle.lanes.specs.declared.Verdict.the-variants.{Refused, Yes, No}
+
+abbrev pub g1File : List ℕ
+g1File = frame6 graphKind 1 0 ++ frameOf4 graphEnd 0
+
+abbrev pub g4File : List ℕ
+g4File =
+    frame6 graphKind 2 0 ++ frame6 arcKind 0 2 ++ frame6 arcKind 3 1 ++ frame6 arcKind 2 3 ++ frame6 arcKind 2 3 ++ frameOf4 graphEnd 4
+
+abbrev pub g5File : List ℕ
+g5File =
+    frame6 graphKind 2 0 ++ frame6 arcKind 0 2 ++ frame6 arcKind 3 1 ++ frame6 arcKind 2 3 ++ frame6 arcKind 2 3 ++ frame6 arcKind 0 2 ++
+    frame6 arcKind 3 1 ++ frameOf4 graphEnd 6
+
+abbrev pub s5File : List ℕ
+s5File =
+    frame4 stockKind 4 ++ frame6 fitKind 0 1 ++ frame6 fitKind 1 2 ++ frame6 fitKind 2 3 ++ frame6 litKind 1 2 ++ frameOf4 stockEnd 4
+
+abbrev pub KnownFiles : Type 0
+KnownFiles =
+    (graphFault g1File ≡ 0) × (graphIn g1File ≡ graphOf 1 []) × (graphFault g4File ≡ 0) × (graphIn g4File ≡ graphOf 2 g4) ×
+    (graphFault g5File ≡ 0) × (graphIn g5File ≡ graphOf 2 g5) × (graphFault [] ≡ 4) × (graphFault (frame6 graphKind 1 0) ≡ 6) ×
+    (stockFault s5File ≡ 0) ×
+    (stockIn s5File ≡ record { cameras = 4; fits = arc 0 1 ∷ arc 1 2 ∷ arc 2 3 ∷ []; lit = arc 1 2 ∷ [] }) × (stockFault [] ≡ 4) ×
+    (checkPost g1File (barrierText (canonical (graphIn g1File))) ≡ Yes) × (checkPost g4File (pathText (0 ∷ 2 ∷ 1 ∷ [])) ≡ No) ×
+    (checkPost g5File (pathText (0 ∷ 2 ∷ 5 ∷ [])) ≡ Yes) × (checkPost g5File (pathText []) ≡ No) × (checkPost g5File [] ≡ Refused 44) ×
+    (checkPost [] g5File ≡ Refused 4)
+
+-- 31, 320001, 320102, 3F0002; 4100, 4F0000; 4101, 430000, 430100, 430200, 4F0003; 5102, 520001, 520203, 5F0002
+abbrev pub KnownTexts : Type 0
+KnownTexts =
+    (barrierText (canonical (graphIn g1File)) ≡
+    (51 ∷ 49 ∷ 10 ∷ 51 ∷ 50 ∷ 48 ∷ 48 ∷ 48 ∷ 49 ∷ 10 ∷ 51 ∷ 50 ∷ 48 ∷ 49 ∷ 48 ∷ 50 ∷ 10 ∷ 51 ∷ 70 ∷ 48 ∷ 48 ∷ 48 ∷ 50 ∷ 10 ∷ [])) ×
+    (sheetText 0 [] ≡ (52 ∷ 49 ∷ 48 ∷ 48 ∷ 10 ∷ 52 ∷ 70 ∷ 48 ∷ 48 ∷ 48 ∷ 48 ∷ 10 ∷ [])) ×
+    (sheetText 3 (arc 0 1 ∷ arc 0 2 ∷ arc 1 2 ∷ []) ≡
+    (52 ∷ 49 ∷ 48 ∷ 49 ∷ 10 ∷ 52 ∷ 51 ∷ 48 ∷ 48 ∷ 48 ∷ 48 ∷ 10 ∷ 52 ∷ 51 ∷ 48 ∷ 49 ∷ 48 ∷ 48 ∷ 10 ∷ 52 ∷ 51 ∷ 48 ∷ 50 ∷ 48 ∷ 48 ∷ 10 ∷
+    52 ∷ 70 ∷ 48 ∷ 48 ∷ 48 ∷ 51 ∷ 10 ∷ [])) ×
+    (planText (arc 0 1 ∷ arc 2 3 ∷ []) ≡
+    (53 ∷ 49 ∷ 48 ∷ 50 ∷ 10 ∷ 53 ∷ 50 ∷ 48 ∷ 48 ∷ 48 ∷ 49 ∷ 10 ∷ 53 ∷ 50 ∷ 48 ∷ 50 ∷ 48 ∷ 51 ∷ 10 ∷ 53 ∷ 70 ∷ 48 ∷ 48 ∷ 48 ∷ 50 ∷ 10 ∷ []))
