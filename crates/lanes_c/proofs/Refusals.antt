@@ -1,23 +1,29 @@
--- What the check says tells its verdicts: the first question answered no is never question 1, so a refusal is neither 0 nor 1.
+-- What the library's calls return tells what they told: the first question answered no is never question 1 in a check, so a refusal is neither 0
+-- nor 1; and it is a number below 256, so it can be told from the size above it.
 --   noneOrHigh n                 n is 0, or 2 or more
 --   check-high                   so is what the check's questions come to
 --   refused-high, says-which     so a refusal is 2 or more, and what is said of such a verdict tells it
 --   check-tells                  what the check says tells its verdict
+--   unpacks, calls-tell          number and size can be read off a call's result
 use mathlib.Core.Path.{_≡_, refl, ap}
 use mathlib.Core.Bool.{Bool, true, _||_, or-true}
 use mathlib.Core.List.{List}
 use Prim.Native.Nat.{ℕ, _+_, _≤_}
 use native.Mathlib.Omega.{arith}
 use lib.Dec.{leb, eqb}
+use lib.ListN.{length}
 use borrow.Author.Tests.{le-leb, leb-true}
+use Rattle.formats.specs.Limits.{room}
 use Rattle.counting.proofs.Booleans.{by-test}
+use Rattle.frames.specs.Frames.{orElse}
 use Rattle.files.specs.GraphFile.{graphIn, graphFault}
-use Rattle.files.proofs.Asked.{graph-refusal}
+use Rattle.files.proofs.Asked.{graph-refusal, stock-refusal}
+use Rattle.files.specs.StockFile.{stockFault}
 use Rattle.files.specs.CertificateFile.{certFault, certHolds}
-use Rattle.lanes.specs.Entry.{checkFault, checkPost}
+use Rattle.lanes.specs.Entry.{told, roomFault, answerFault, sheetFault, checkFault, checkPost}
 use Rattle.lanes.specs.declared.Verdict.{Verdict}
 use Rattle.lanes.specs.declared.Verdict.the-variants.{Refused, Yes, No}
-use Rattle.lanes_c.specs.Exported.{said, SaysWhich, CheckTells}
+use Rattle.lanes_c.specs.Exported.{Unpacks, CallsTell, said, SaysWhich, CheckTells}
 
 abbrev noneOrHigh : ℕ → Bool
 noneOrHigh n = eqb n 0 || leb 2 n
@@ -46,3 +52,17 @@ says-which No h = ((λ e. absurd (omega arith), λ e. ap said e), (λ _. refl, �
 
 pub check-tells : CheckTells
 check-tells f c = says-which (checkPost f c) (refused-high f c)
+
+unpacks : (n k : ℕ) → leb n 14 ≡ true → Unpacks (told n k)
+unpacks n k h =
+    let l = leb-true n 14 h in by-test (eqb n 0) (λ t. rw t (omega (arith, l), omega (arith, l))) (λ t. rw t (omega (arith, l), omega (arith, l)))
+
+-- question 1, and then those of a file
+after-room : (o : List ℕ) (n : ℕ) → leb n 14 ≡ true → leb (orElse (roomFault o) n) 14 ≡ true
+after-room o n h = by-test (leb room (length o)) (λ t. rw t h) (λ t. rw t)
+
+pub calls-tell : CallsTell
+calls-tell f o k = (
+  unpacks (answerFault f o) k (after-room o (graphFault f) (graph-refusal f (λ (n : ℕ). leb n 14) refl refl)),
+  unpacks (sheetFault f o) k (after-room o (stockFault f) (stock-refusal f (λ (n : ℕ). leb n 14) refl refl)),
+)

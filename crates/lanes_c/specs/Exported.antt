@@ -3,14 +3,15 @@
 --   packed told                                       a call's result: its number in the lowest byte, its size above
 --   said verdict                                      the check's: 1 for yes, 0 for no, otherwise the refusal
 --   SaysWhich verdict, CheckTells                     1 is said of yes alone and 0 of no alone, a refusal is 2 or more; so it is of every verdict of the check
+--   Unpacks told, CallsTell                           number and size can be read off a call's result; so it is of every call
 --   Called Owes tally result after counts             a call whose answer is left free: what it tells and leaves is owed, and the tally is as given
 --   SheetCalled file before counts result after new   the call that writes a standing sheet
 use mathlib.Core.Path.{_≡_}
 use mathlib.Core.Logic.{_↔_}
 use mathlib.Core.List.{List, [], _∷_}
-use Prim.Native.Nat.{ℕ, _+_, _*_, _≤_}
+use Prim.Native.Nat.{ℕ, _+_, _*_, _/_, _%_, _≤_}
 use lib.ListN.{getD}
-use Rattle.lanes.specs.Entry.{checkPost, sheetPost, sheetLeaves, stockTally}
+use Rattle.lanes.specs.Entry.{told, answerFault, sheetFault, checkPost, sheetPost, sheetLeaves, stockTally}
 use Rattle.lanes.specs.declared.Tally.{Tally}
 use Rattle.lanes.specs.declared.Told.{Told}
 use Rattle.lanes.specs.declared.Verdict.{Verdict}
@@ -24,6 +25,12 @@ countsOf t = t .paths ∷ t .barriers ∷ t .stocks ∷ t .refusals ∷ []
 
 abbrev pub packed : Told → ℕ
 packed r = 256 * r .size + r .number
+
+abbrev pub Unpacks : Told → Type 0
+Unpacks r = (packed r % 256 ≡ r .number) × (packed r / 256 ≡ r .size)
+
+abbrev pub CallsTell : Type 0
+CallsTell = (file buffer : List ℕ) (size : ℕ) → Unpacks (told (answerFault file buffer) size) × Unpacks (told (sheetFault file buffer) size)
 
 abbrev pub said : Verdict → ℕ
 said (Refused n) = n
