@@ -7,7 +7,7 @@
 use mathlib.Core.Path.{_≡_, refl, sym, ap, subst, _∙_}
 use mathlib.Core.Bool.{true, false}
 use mathlib.Core.List.{List}
-use Prim.Native.Nat.{ℕ, _+_, _*_, _≤_, _<_}
+use Prim.Native.Nat.{ℕ, suc, _+_, _*_, _≤_, _<_}
 use native.Mathlib.Numerals.{add-one}
 use native.Mathlib.Omega.{arith}
 use lib.ListN.{length, take, drop, replicate, length-replicate}
@@ -18,10 +18,10 @@ use Rattle.counting.proofs.Booleans.{true-false}
 use Rattle.skew.specs.Graph.{Graph, nodes, isWanted, isReachable, hasPath}
 use Rattle.skew.specs.Paths.{WellFormed}
 use Rattle.arcs.specs.Table.{graphOf, ArcTable}
-use Rattle.search.specs.Answer.{Searched}
+use Rattle.search.specs.Answer.{reachedTable, Searched}
 use Rattle.search.specs.declared.answer.Answer.{Answer}
 use Rattle.search.specs.declared.answer.Answer.the-variants.{Path, NoPath}
-use Rattle.search.proofs.Answers.{wanted-front}
+use Rattle.search.proofs.Answers.{table-tells, wanted-front}
 use Rattle.matching.specs.Matching.{Matching}
 use Rattle.matching.specs.Rotation.{rotateAlong, Rotates, Augments}
 use Rattle.matching.specs.Row.{partnerIn}
@@ -39,16 +39,16 @@ row-front n h = length-take-le n (replicate {A = ℕ} camerasMost 0) (omega (ari
 pub reached-front : (n : ℕ) → n ≤ camerasMost → length (take (2 * (n + 1)) (replicate {A = ℕ} 256 0)) ≡ 2 * (n + 1)
 reached-front n h = length-take-le (2 * (n + 1)) (replicate {A = ℕ} 256 0) (omega (arith, length-replicate {A = ℕ} 256 0))
 
-pub path-answer : (g : Graph) (a : Answer) (k : ℕ) (path path′ reached : List ℕ) → nodes g ≤ length path → a ≡ Path k → Searched g a path path′ reached →
-    (k < nodes g) × (isWanted g (take k path′) ≡ true)
-path-answer g a k path path′ reached h e A =
-    let W = subst (λ (z : Answer). Searched g z path path′ reached) e A .0 in
+pub path-answer : (g : Graph) (a : Answer) (k : ℕ) (path path′ reached reached′ : List ℕ) → nodes g ≤ length path → a ≡ Path k →
+    Searched g a path path′ reached reached′ → (k < nodes g) × (isWanted g (take k path′) ≡ true)
+path-answer g a k path path′ reached reached′ h e A =
+    let W = subst (λ (z : Answer). Searched g z path path′ reached reached′) e A .0 in
     let few = W .few in
     (few, wanted-front W (omega arith))
 
-pub none-answer : (g : Graph) (a : Answer) (path path′ reached : List ℕ) → a ≡ NoPath → Searched g a path path′ reached →
-    (hasPath g ≡ false) × (path′ ≡ path) × ((v : ℕ) → isReachable g v ≡ reachedIn reached v)
-none-answer g a path path′ reached e A = subst (λ (z : Answer). Searched g z path path′ reached) e A
+pub none-answer : (g : Graph) (a : Answer) (path path′ reached reached′ : List ℕ) → a ≡ NoPath → Searched g a path path′ reached reached′ →
+    (hasPath g ≡ false) × (path′ ≡ path) × (reached′ ≡ reachedTable g)
+none-answer g a path path′ reached reached′ e A = subst (λ (z : Answer). Searched g z path path′ reached reached′) e A
 
 module _ (row firsts seconds : List ℕ) {ts₀ hs₀ ts hs : List ℕ} {r : ℕ} (T : FitTable (length row) firsts seconds) (M : Matching (zipPairs firsts seconds) (partnerIn row)) (D : Doubled row (zipPairs firsts seconds) ts₀ hs₀ ts hs r) where
   abbrev n : ℕ
@@ -98,15 +98,14 @@ module _ (row firsts seconds : List ℕ) {ts₀ hs₀ ts hs : List ℕ} {r : ℕ
           none = λ t. true-false refl t;
         }
 
-  pub none-stepped : (reached : List ℕ) → hasPath g ≡ false → ((v : ℕ) → isReachable g v ≡ reachedIn reached v) → Stepped fs row row reached false
-  none-stepped reached e tells =
+  pub none-stepped : (reached : List ℕ) → hasPath g ≡ false → reached ≡ reachedTable g → Stepped fs row row reached false
+  none-stepped reached e table-is =
       record {
         more = λ t. true-false t refl;
-        none = λ t. (
-          refl,
-          record {
-            no-path = subst (λ (h : Graph). hasPath h ≡ false) same e;
-            tells = λ v l. subst (λ (h : Graph). reachedIn reached v ≡ isReachable h v) same (sym (tells v));
-          },
-        );
+        none = λ t. (refl, record { no-path = subst (λ (h : Graph). hasPath h ≡ false) same e; tells = tells });
       }
+    where
+      tells : (v : ℕ) → v < 2 * suc n → reachedIn reached v ≡ isReachable (doubledTable n fs p) v
+      tells v l =
+          subst (λ (h : Graph). reachedIn reached v ≡ isReachable h v) same
+          (ap (λ (rs : List ℕ). reachedIn rs v) table-is ∙ table-tells g v (omega arith))

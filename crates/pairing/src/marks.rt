@@ -9,8 +9,8 @@ ghost use Rattle.counting.specs.Tests.{pick, below};
 ghost use Rattle.matching.specs.DoubledTable.{marksBy};
 ghost use Rattle.pairing.specs.Plan.{reachedIn};
 
-// The mark of a camera whose two nodes carry these numbers, 0 where they are not reached.
-fn mark_of(outer: usize, inner: usize) -> u8
+// The mark of a camera whose two nodes carry these flags, 0 where they are not reached.
+fn mark_of(outer: u8, inner: u8) -> u8
     ensures { λ r. ⌜ r ≡ pick (ltb 0 outer) 0 (pick (ltb 0 inner) 1 2) ⌝ }
 {
     if 0 < outer {
@@ -23,7 +23,7 @@ fn mark_of(outer: usize, inner: usize) -> u8
 }
 
 // The mark of each camera.
-pub fn marks_of(reached: &[usize], marks: &mut [u8])
+pub fn marks_of(reached: &[u8], marks: &mut [u8])
     requires { ⌜ 2 * length (now marks) ≤ length (now reached) ⌝ }
     ensures { λ r. ⌜ now (marks .exit) ≡ marksBy (reachedIn (now (reached .entry))) (below (length (now (marks .entry)))) ⌝ }
 {

@@ -33,7 +33,7 @@ use search::answer::Answer;
 use search::answer::path_or_reached;
 
 // One search: one pair more along the path found, or the table of reached nodes.
-fn improve(row: &mut [u8], firsts: &[u8], seconds: &[u8], reached: &mut [usize]) -> bool
+fn improve(row: &mut [u8], firsts: &[u8], seconds: &[u8], reached: &mut [u8]) -> bool
     requires { ⌜ FitTable (length (now row)) (now firsts) (now seconds) ⌝ }
     requires { ⌜ Matching (zipPairs (now firsts) (now seconds)) (partnerIn (now row)) ⌝ }
     requires { ⌜ length (now reached) ≡ 2 * (length (now row) + 1) ⌝ }
@@ -62,7 +62,7 @@ fn improve(row: &mut [u8], firsts: &[u8], seconds: &[u8], reached: &mut [usize])
 }
 
 // Searches until there is no path: as many as pairs are gained, and one.
-fn largest(row: &mut [u8], firsts: &[u8], seconds: &[u8], reached: &mut [usize])
+fn largest(row: &mut [u8], firsts: &[u8], seconds: &[u8], reached: &mut [u8])
     requires { ⌜ FitTable (length (now row)) (now firsts) (now seconds) ⌝ }
     requires { ⌜ Matching (zipPairs (now firsts) (now seconds)) (partnerIn (now row)) ⌝ }
     requires { ⌜ length (now reached) ≡ 2 * (length (now row) + 1) ⌝ }
@@ -82,7 +82,7 @@ fn largest_from_lit(
     seconds: &[u8],
     lit_firsts: &[u8],
     lit_seconds: &[u8],
-    reached: &mut [usize],
+    reached: &mut [u8],
 )
     requires { ⌜ StockTable (length (now row)) (now firsts) (now seconds) (now «lit_firsts») (now «lit_seconds») ⌝ }
     requires { ⌜ length (now reached) ≡ 2 * (length (now row) + 1) ⌝ }
@@ -106,7 +106,7 @@ fn plan_in(
     requires { ⌜ (length (now row) ≤ length (now «pair_firsts»)) × (length (now row) ≤ length (now «pair_seconds»)) ⌝ }
     ensures { λ r. ⌜ PlanListed (stockOf (length (now (row .entry))) (now (firsts .entry)) (now (seconds .entry)) (now («lit_firsts» .entry)) (now («lit_seconds» .entry))) (now («pair_firsts» .entry)) (now («pair_seconds» .entry)) (now («pair_firsts» .exit)) (now («pair_seconds» .exit)) r ⌝ }
 {
-    let mut reached = [0usize; 256];
+    let mut reached = [0u8; 256];
     let nodes = 2 * (row.len() + 1);
     largest_from_lit(
         row,
@@ -152,7 +152,7 @@ fn sheet_in(
     seconds: &[u8],
     lit_firsts: &[u8],
     lit_seconds: &[u8],
-    reached: &mut [usize],
+    reached: &mut [u8],
     marks: &mut [u8],
 ) -> usize
     requires { ⌜ StockTable (length (now row)) (now firsts) (now seconds) (now «lit_firsts») (now «lit_seconds») ⌝ }
@@ -177,7 +177,7 @@ pub fn sheet(
     ensures { λ r. ⌜ Sheet (length (now (marks .entry))) (zipPairs (now (firsts .entry)) (now (seconds .entry))) (now (marks .exit)) r ⌝ }
 {
     let mut row = [0u8; CAMERAS_MOST];
-    let mut reached = [0usize; 256];
+    let mut reached = [0u8; 256];
     let cameras = marks.len();
     let nodes = 2 * (cameras + 1);
     sheet_in(

@@ -2,41 +2,43 @@
 --   wanted-short             a wanted path has fewer arcs than the graph has nodes
 --   source-small             the source's mate can be told
 --   restorable, path-written      the source's mate is reached: the path is restored
---   reached-only             every reached node is reachable
 --   exhausted                the source's mate is not reached
 --   path-explored            there is a path: nothing is left to do
 --   sought-none              there is none: what the tables show
---   none-explored            and what is left once the class table, where one is lent, is filled
---   explored-searched        which is what a call owes that asks for no classes
---   explored-answered        and one that asks for them
+--   table-tells              the table of the reachable nodes, read
+--   none-reached             the nodes' flags by their births are that table
+--   none-explored            no path: what is left once the tables that are lent are filled
+--   explored-searched        which is what a call owes that asks for the reached nodes
+--   explored-answered        and one that asks for classes
 --   wanted-front             the path written, read back
 --   front-clear              the front of a table of zeros is clear
 use mathlib.Core.Path.{_≡_, refl, sym, ap, subst, _∙_}
 use mathlib.Core.Logic.{_⊎_, inl, inr, ⊎-elim}
 use mathlib.Core.Bool.{Bool, true, false}
 use mathlib.Core.List.{List}
-use Prim.Native.Nat.{ℕ, _*_, _≤_, _<_}
+use Prim.Native.Nat.{ℕ, zero, suc, _+_, _*_, _≤_, _<_}
 use native.Mathlib.Omega.{arith}
 use lib.Dec.{ltb, eqb}
 use lib.ListN.{length, getD, take, replicate, length-replicate, getD-replicate, List·getD-eq-default}
-use lib.Seq.{length-take-le, getD-take}
+use lib.Seq.{length-take-le, getD-take, ext-getD}
 use borrow.Author.Tests.{ltb-true, ltb-false}
 use Rattle.formats.specs.Limits.{arcsMost}
+use Rattle.counting.specs.Tests.{upFrom}
 use Rattle.counting.proofs.Booleans.{and-left, by-test}
 use Rattle.counting.proofs.Range.{pigeonhole}
 use Rattle.counting.proofs.Stores.{take-sets}
-use Rattle.skew.specs.Graph.{Graph, mate, nodes, nodesAlong, endOf, isRegular, isWanted, canonical}
+use Rattle.skew.specs.Graph.{Graph, mate, nodes, nodesAlong, endOf, isRegular, isWanted, isReachable, canonical}
 use Rattle.skew.specs.Paths.{head, WellFormed}
 use Rattle.skew.specs.Search.{State, Earlier}
 use Rattle.skew.proofs.Paths.{regular-path, nodes-within, length-nodes}
 use Rattle.skew.proofs.Restoration.{restored-path}
-use Rattle.skew.proofs.Exact.{reached-reachable}
 use Rattle.arcs.specs.Table.{graphOf}
 use Rattle.search.specs.State.{stateOf, Clear}
 use Rattle.search.specs.Queue.{Ended}
 use Rattle.search.specs.Restore.{Route, LabelTable, Restorable, Restored}
 use Rattle.search.specs.ClassTable.{Exhausted}
-use Rattle.search.specs.Answer.{PathWritten, ReachedOnly, PathSought, Explored, Searched, Answered}
+use Rattle.search.specs.Steps.{Mapped}
+use Rattle.search.specs.Answer.{PathWritten, PathSought, reachedFlag, flagsBy, reachedFrom, reachedTable, Explored, Searched, Answered}
 use Rattle.search.specs.declared.answer.Answer.{Answer}
 use Rattle.search.specs.declared.answer.Answer.the-variants.{Path, NoPath}
 use Rattle.arcs.proofs.Tables.{arc-in, tail-is, head-is}
@@ -61,9 +63,6 @@ module _ (n s : ℕ) (ts hs bs vs ss ms : List ℕ) (r : Bool) (E : Ended n s ts
 
   pub source-small : s < arcsMost
   source-small = omega (arith, E .search .table .well-formed .source-node, E .search .table .pairs-few)
-
-  pub reached-only : ReachedOnly g bs
-  reached-only = reached-reachable g (E .search .table .well-formed) st (E .search .state .invariant)
 
   -- THE PATH
   labels : LabelTable n s ts hs bs vs
@@ -107,29 +106,60 @@ module _ (n s : ℕ) (ts hs bs vs ss ms : List ℕ) (r : Bool) (E : Ended n s ts
     pub exhausted : Exhausted n s ts hs bs vs ss
     exhausted = let C = E .closed none in record { clock = E .clock; search = E .search; closed = C .0; shut = C .1 }
 
--- WITH A CLASS TABLE
+-- THE TABLE OF THE REACHED NODES
+reached-at : (g : Graph) (a k i : ℕ) → i < k → getD (reachedFrom g (upFrom a k)) i 0 ≡ reachedFlag (isReachable g (a + i))
+unfolding reachedFrom upFrom
+reached-at g a zero i l = absurd (omega arith)
+reached-at g a (suc k) zero l = let e : a + 0 ≡ a = omega arith in rw e
+reached-at g a (suc k) (suc i) l = let e : a + suc i ≡ suc a + i = omega arith in rw e (reached-at g (suc a) k i (omega arith))
+
+reached-length : (g : Graph) (a k : ℕ) → length (reachedFrom g (upFrom a k)) ≡ k
+unfolding reachedFrom upFrom
+reached-length g a zero = refl
+reached-length g a (suc k) = ap suc (reached-length g (suc a) k)
+
+flag-tells : (b : Bool) → ltb 0 (reachedFlag b) ≡ b
+flag-tells true = refl
+flag-tells false = refl
+
+pub table-tells : (g : Graph) (v : ℕ) → v < nodes g → ltb 0 (getD (reachedTable g) v 0) ≡ isReachable g v
+table-tells g v h =
+    let e : 0 + v ≡ v = omega arith in
+    ap (ltb 0) (rw e at (reached-at g 0 (nodes g) v h)) ∙ flag-tells (isReachable g v)
+
+-- THE TABLES THAT ARE LENT
 module _ (n s : ℕ) (ts hs p p′ bs vs ss ms : List ℕ) where
-  pub path-explored : (a : Answer) (k : ℕ) (cs : List ℕ) → a ≡ Path k → PathSought n s ts hs a p p′ bs vs ss ms → Explored (graphOf n s ts hs) a p p′ bs cs cs
-  path-explored a k cs e F =
+  pub path-explored : (a : Answer) (k : ℕ) (cs rs : List ℕ) → a ≡ Path k → PathSought n s ts hs a p p′ bs vs ss ms →
+      Explored (graphOf n s ts hs) a p p′ cs cs rs rs
+  path-explored a k cs rs e F =
       let W = subst (λ (x : Answer). PathSought n s ts hs x p p′ bs vs ss ms) e F in
-      subst (λ (x : Answer). Explored (graphOf n s ts hs) x p p′ bs cs cs) (sym e) (W .0, W .1, refl)
+      subst (λ (x : Answer). Explored (graphOf n s ts hs) x p p′ cs cs rs rs) (sym e) (W, refl, refl)
 
   pub sought-none : (a : Answer) → a ≡ NoPath → PathSought n s ts hs a p p′ bs vs ss ms → PathSought n s ts hs NoPath p p′ bs vs ss ms
   sought-none a e F = subst (λ (x : Answer). PathSought n s ts hs x p p′ bs vs ss ms) e F
 
-  pub none-explored : (cs cs′ : List ℕ) → PathSought n s ts hs NoPath p p′ bs vs ss ms → (0 < length cs → cs′ ≡ canonical (graphOf n s ts hs)) →
-      Explored (graphOf n s ts hs) NoPath p p′ bs cs cs′
-  none-explored cs cs′ F h = (no-path n s ts hs bs vs ss (F .1), F .0, table-reached n s ts hs bs vs ss (F .1), h)
+  module _ (F : PathSought n s ts hs NoPath p p′ bs vs ss ms) where
+    pub none-reached : (rs rs′ : List ℕ) → Mapped (flagsBy bs) rs rs′ (length rs) → length rs ≡ 2 * n → rs′ ≡ reachedTable (graphOf n s ts hs)
+    none-reached rs rs′ M l =
+        ext-getD 0 rs′ (reachedTable (graphOf n s ts hs)) (M .long ∙ l ∙ sym (reached-length (graphOf n s ts hs) 0 (2 * n)))
+        (λ i h.
+        let e : 0 + i ≡ i = omega arith in
+        M .done i (omega (arith, M .long)) ∙ ap reachedFlag (sym (table-reached n s ts hs bs vs ss (F .1) i)) ∙
+        sym (rw e at (reached-at (graphOf n s ts hs) 0 (2 * n) i (omega (arith, M .long)))))
+
+    pub none-explored : (cs cs′ rs rs′ : List ℕ) → (0 < length cs → cs′ ≡ canonical (graphOf n s ts hs)) → Mapped (flagsBy bs) rs rs′ (length rs) →
+        Explored (graphOf n s ts hs) NoPath p p′ cs cs′ rs rs′
+    none-explored cs cs′ rs rs′ h M = (no-path n s ts hs bs vs ss (F .1), F .0, h, none-reached rs rs′ M)
 
 -- THE TWO CALLS
-module _ (g : Graph) (p p′ rs cs cs′ : List ℕ) where
-  pub explored-searched : (a : Answer) → Explored g a p p′ rs cs cs′ → Searched g a p p′ rs
-  explored-searched (Path k) F = (F .0, F .1)
-  explored-searched NoPath F = (F .0, F .1, F .2)
+module _ (g : Graph) (p p′ cs cs′ rs rs′ : List ℕ) where
+  pub explored-searched : (a : Answer) → length rs ≡ nodes g → Explored g a p p′ cs cs′ rs rs′ → Searched g a p p′ rs rs′
+  explored-searched (Path k) l F = (F .0, F .2)
+  explored-searched NoPath l F = (F .0, F .1, F .3 l)
 
-  pub explored-answered : (a : Answer) → 0 < length cs → Explored g a p p′ rs cs cs′ → Answered g a p p′ cs cs′
-  explored-answered (Path k) h F = (F .0, F .2)
-  explored-answered NoPath h F = (F .0, F .1, F .3 h)
+  pub explored-answered : (a : Answer) → 0 < length cs → Explored g a p p′ cs cs′ rs rs′ → Answered g a p p′ cs cs′
+  explored-answered (Path k) h F = (F .0, F .1)
+  explored-answered NoPath h F = (F .0, F .1, F .2 h)
 
 pub wanted-front : {g : Graph} {k : ℕ} {p p′ : List ℕ} → PathWritten g k p p′ → k ≤ length p → isWanted g (take k p′) ≡ true
 wanted-front {p = p} W h = let c = W .count in rw (W .written, c, take-sets p (W .arcs) (omega arith)) (W .wanted)

@@ -1,19 +1,22 @@
 // The answer to a graph (document 01, "The graph" and "The barrier"): a wanted path, or the reason why there is none.
 //   find_path           searched with the state's tables lent: a path, or tables that show that there is none
-//   answer_in           and then the canonical barrier, where a class table is lent
-//   explore             the same with most tables its own
+//   reached_flag        1 for a node that has a birth number, 0 for another
+//   tell_reached        the flags of the nodes, from their births
+//   answer_in           a search, and where there is no path the tables that are lent for the reason
+//   explore             the same with the state's tables its own
 //   path_or_reached     a path, or the reachable nodes
 //   path_or_barrier     a path, or the canonical barrier
 ghost use Prim.Native.Nat.{_*_, _≤_, _<_};
 ghost use mathlib.Core.Path.{_≡_};
+ghost use lib.Dec.{ltb};
 ghost use lib.ListN.{length};
 ghost use Rattle.arcs.specs.Table.{graphOf, ArcTable};
 ghost use Rattle.search.specs.State.{Clear};
-ghost use Rattle.search.specs.Answer.{PathSought, Explored, Searched, Answered};
+ghost use Rattle.search.specs.Steps.{Mapped};
+ghost use Rattle.search.specs.Answer.{PathSought, reachedFlag, flagsBy, Explored, Searched, Answered};
 use crate::classes::classes;
 use crate::restore::restore;
 use crate::search::search;
-use crate::steps::clear;
 use arcs::node::mate_of;
 use formats::limits::MATE_PAIRS_MOST;
 
@@ -62,7 +65,28 @@ fn find_path(
     Answer::NoPath
 }
 
-// The same, and where a class table is lent and there is no path, the canonical barrier goes into it.
+fn reached_flag(birth: usize) -> u8
+    ensures { λ r. ⌜ r ≡ reachedFlag (ltb 0 birth) ⌝ }
+{
+    if 0 < birth {
+        return 1;
+    }
+    0
+}
+
+fn tell_reached(birth: &[usize], reached: &mut [u8])
+    requires { ⌜ length (now reached) ≤ length (now birth) ⌝ }
+    ensures { λ _. ⌜ Mapped (flagsBy (now (birth .entry))) (now (reached .entry)) (now (reached .exit)) (length (now (reached .entry))) ⌝ }
+{
+    let mut v: usize = 0;
+    // invariant: specs/Steps Mapped flagsBy; falls: nodes left
+    while v < reached.len() {
+        reached[v] = reached_flag(birth[v]);
+        v += 1;
+    }
+}
+
+// Where there is no path, the canonical barrier goes into the class table and the reached nodes into theirs, of the tables that are lent.
 fn answer_in(
     pairs: usize,
     source: usize,
@@ -74,13 +98,15 @@ fn answer_in(
     mark: &mut [usize],
     queue: &mut [usize],
     class: &mut [u8],
+    reached: &mut [u8],
     path: &mut [usize],
 ) -> Answer
     requires { ⌜ ArcTable pairs source (now tails) (now heads) ⌝ }
     requires { ⌜ Clear (graphOf pairs source (now tails) (now heads)) (now birth) × Clear (graphOf pairs source (now tails) (now heads)) (now mark) ⌝ }
     requires { ⌜ (length (now via) ≡ 2 * pairs) × (length (now base) ≡ pairs) × (length (now queue) ≡ 2 * pairs) ⌝ }
-    requires { ⌜ (0 < length (now class) → length (now class) ≡ 2 * pairs) × (2 * pairs ≤ length (now path)) ⌝ }
-    ensures { λ r. ⌜ Explored (graphOf pairs source (now (tails .entry)) (now (heads .entry))) r (now (path .entry)) (now (path .exit)) (now (birth .exit)) (now (class .entry)) (now (class .exit)) ⌝ }
+    requires { ⌜ (0 < length (now class) → length (now class) ≡ 2 * pairs) × (length (now reached) ≤ 2 * pairs) ⌝ }
+    requires { ⌜ 2 * pairs ≤ length (now path) ⌝ }
+    ensures { λ r. ⌜ Explored (graphOf pairs source (now (tails .entry)) (now (heads .entry))) r (now (path .entry)) (now (path .exit)) (now (class .entry)) (now (class .exit)) (now (reached .entry)) (now (reached .exit)) ⌝ }
 {
     let answer = find_path(
         pairs,
@@ -97,27 +123,29 @@ fn answer_in(
     let Answer::NoPath = answer else {
         return answer;
     };
+    tell_reached(birth, reached);
     if 0 < class.len() {
         classes(pairs, source, tails, heads, birth, via, base, mark, class);
     }
     Answer::NoPath
 }
 
-// The state's other tables are small and live here, once for both calls: at fixed places they are reached with fewer instructions than lent ones.
+// The state's tables are small and live here, once for both calls: at fixed places they are reached with fewer instructions than lent ones.
 fn explore(
     pairs: usize,
     source: usize,
     tails: &[u8],
     heads: &[u8],
-    birth: &mut [usize],
     class: &mut [u8],
+    reached: &mut [u8],
     path: &mut [usize],
 ) -> Answer
     requires { ⌜ ArcTable pairs source (now tails) (now heads) ⌝ }
-    requires { ⌜ Clear (graphOf pairs source (now tails) (now heads)) (now birth) ⌝ }
-    requires { ⌜ (0 < length (now class) → length (now class) ≡ 2 * pairs) × (2 * pairs ≤ length (now path)) ⌝ }
-    ensures { λ r. ⌜ Explored (graphOf pairs source (now (tails .entry)) (now (heads .entry))) r (now (path .entry)) (now (path .exit)) (now (birth .exit)) (now (class .entry)) (now (class .exit)) ⌝ }
+    requires { ⌜ (0 < length (now class) → length (now class) ≡ 2 * pairs) × (length (now reached) ≤ 2 * pairs) ⌝ }
+    requires { ⌜ 2 * pairs ≤ length (now path) ⌝ }
+    ensures { λ r. ⌜ Explored (graphOf pairs source (now (tails .entry)) (now (heads .entry))) r (now (path .entry)) (now (path .exit)) (now (class .entry)) (now (class .exit)) (now (reached .entry)) (now (reached .exit)) ⌝ }
 {
+    let mut birth = [0usize; 256];
     let mut via = [0usize; 256];
     let mut base = [0usize; MATE_PAIRS_MOST];
     let mut mark = [0usize; 256];
@@ -128,32 +156,32 @@ fn explore(
         source,
         tails,
         heads,
-        birth,
+        &mut birth[..nodes],
         &mut via[..nodes],
         &mut base[..pairs],
         &mut mark[..nodes],
         &mut queue[..nodes],
         class,
+        reached,
         path,
     )
 }
 
-// Where there is no path, `reached` is 0 exactly at the nodes that are not reachable.
+// Where there is no path, `reached` gets 1 at the nodes that are reachable and 0 at the others.
 pub fn path_or_reached(
     pairs: usize,
     source: usize,
     tails: &[u8],
     heads: &[u8],
-    reached: &mut [usize],
+    reached: &mut [u8],
     path: &mut [usize],
 ) -> Answer
     requires { ⌜ ArcTable pairs source (now tails) (now heads) ⌝ }
     requires { ⌜ (length (now reached) ≡ 2 * pairs) × (2 * pairs ≤ length (now path)) ⌝ }
-    ensures { λ r. ⌜ Searched (graphOf pairs source (now (tails .entry)) (now (heads .entry))) r (now (path .entry)) (now (path .exit)) (now (reached .exit)) ⌝ }
+    ensures { λ r. ⌜ Searched (graphOf pairs source (now (tails .entry)) (now (heads .entry))) r (now (path .entry)) (now (path .exit)) (now (reached .entry)) (now (reached .exit)) ⌝ }
 {
     let mut none = [0u8; 0];
-    clear(reached);
-    explore(pairs, source, tails, heads, reached, &mut none, path)
+    explore(pairs, source, tails, heads, &mut none, reached, path)
 }
 
 // Where there is no path, `class` gets the canonical barrier, from the reached nodes.
@@ -169,15 +197,6 @@ pub fn path_or_barrier(
     requires { ⌜ (length (now class) ≡ 2 * pairs) × (2 * pairs ≤ length (now path)) ⌝ }
     ensures { λ r. ⌜ Answered (graphOf pairs source (now (tails .entry)) (now (heads .entry))) r (now (path .entry)) (now (path .exit)) (now (class .entry)) (now (class .exit)) ⌝ }
 {
-    let mut birth = [0usize; 256];
-    let nodes = 2 * pairs;
-    explore(
-        pairs,
-        source,
-        tails,
-        heads,
-        &mut birth[..nodes],
-        class,
-        path,
-    )
+    let mut none = [0u8; 0];
+    explore(pairs, source, tails, heads, class, &mut none, path)
 }

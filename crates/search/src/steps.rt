@@ -88,7 +88,7 @@ fn rebase_absorbed(base: &mut [usize], mark: &[usize], to: usize)
     }
 }
 
-pub fn clear(mark: &mut [usize])
+fn clear(mark: &mut [usize])
     ensures { λ _. ⌜ Mapped zeroed (now (mark .entry)) (now (mark .exit)) (length (now (mark .entry))) ⌝ }
 {
     let mut k: usize = 0;

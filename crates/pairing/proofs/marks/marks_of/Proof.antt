@@ -24,20 +24,14 @@ loop-holds c = (omega arith, refl, λ j h. absurd (omega arith))
 mul-mark-of : tie.Need-mul-mark-of Inv-loop μ-loop
 mul-mark-of c = search needs
 
-mul-mark-of-2 : tie.Need-mul-mark-of-2 Inv-loop μ-loop
-mul-mark-of-2 c = search needs
-
 shared-slice-read-mark-of : tie.Need-shared-slice-read-mark-of Inv-loop μ-loop
 shared-slice-read-mark-of c = omega (arith, c .before .before .loop .inv .1, c .before .before .before .before .before .pre)
 
-mul-mark-of-3 : tie.Need-mul-mark-of-3 Inv-loop μ-loop
-mul-mark-of-3 c = search needs
+mul-mark-of-2 : tie.Need-mul-mark-of-2 Inv-loop μ-loop
+mul-mark-of-2 c = search needs
 
 add-mark-of : tie.Need-add-mark-of Inv-loop μ-loop
 add-mark-of c = search needs
-
-mul-mark-of-4 : tie.Need-mul-mark-of-4 Inv-loop μ-loop
-mul-mark-of-4 c = search needs
 
 shared-slice-read-mark-of-2 : tie.Need-shared-slice-read-mark-of-2 Inv-loop μ-loop
 shared-slice-read-mark-of-2 c =
@@ -79,11 +73,9 @@ marks-of-spec =
     μ-loop
     loop-holds
     mul-mark-of
-    mul-mark-of-2
     shared-slice-read-mark-of
-    mul-mark-of-3
+    mul-mark-of-2
     add-mark-of
-    mul-mark-of-4
     shared-slice-read-mark-of-2
     mark-of-requires
     slice-write-marks

@@ -66,20 +66,20 @@ slice-aggregate-augment-2 c = sym (length-take-le _ _ (c .before .before .before
 array-share-prefix-path : tie.Need-array-share-prefix-path
 array-share-prefix-path c =
     let few = c .before .before .before .before .before .before .before .before .before .before .before .before .before .before .before .before .before .before .before .before .before .before .before .before .pre .0 .cameras-few in
-    let A = path-answer _ _ _ _ _ _ (omega arith) (c .before .before .before .before .answer .given .1) (c .before .before .before .before .before .before .before .before .before .path-or-reached .ensures) in
+    let A = path-answer _ _ _ _ _ _ _ (omega arith) (c .before .before .before .before .answer .given .1) (c .before .before .before .before .before .before .before .before .before .path-or-reached .ensures) in
     omega (arith, A .0)
 
 slice-aggregate-augment-3 : tie.Need-slice-aggregate-augment-3
 slice-aggregate-augment-3 c =
     let few = c .before .before .before .before .before .before .before .before .before .before .before .before .before .before .before .before .before .before .before .before .before .before .before .before .before .pre .0 .cameras-few in
-    let A = path-answer _ _ _ _ _ _ (omega arith) (c .before .before .before .before .before .answer .given .1) (c .before .before .before .before .before .before .before .before .before .before .path-or-reached .ensures) in
+    let A = path-answer _ _ _ _ _ _ _ (omega arith) (c .before .before .before .before .before .answer .given .1) (c .before .before .before .before .before .before .before .before .before .before .path-or-reached .ensures) in
     sym (length-take-le _ _ (omega (arith, A .0)))
 
 augment-requires : tie.Need-augment-requires
 augment-requires c κs =
     let S = c .before .before .before .before .before .before .before .before .before .before .before .before .before .before .before .before .before .before .before .before .before .before .before .before .before in
     let few = S .pre .0 .cameras-few in
-    let A = path-answer _ _ _ _ _ _ (omega arith) (c .before .before .before .before .before .answer .given .1) (c .before .before .before .before .before .before .before .before .before .before .path-or-reached .ensures) in
+    let A = path-answer _ _ _ _ _ _ _ (omega arith) (c .before .before .before .before .before .answer .given .1) (c .before .before .before .before .before .before .before .before .before .before .path-or-reached .ensures) in
     let D = c .before .before .before .before .before .before .before .before .before .before .before .before .before .before .before .before .before .table .ensures in (
       as-long (now (S .args .row)) (now (S .args .firsts)) (now (S .args .seconds)) (S .pre .0) (S .pre .1 .0) D,
       path-rotates (now (S .args .row)) (now (S .args .firsts)) (now (S .args .seconds)) (S .pre .0) (S .pre .1 .0) D _ (A .1),
@@ -98,7 +98,7 @@ returns : tie.Need-returns
 returns c =
     let S = c .before .before .before .before .before .before .before .before .before .before .before .before .before .before .before .before .before .before .before .before .before .before .before .before .before .before .before .before in
     let few = S .pre .0 .cameras-few in
-    let A = path-answer _ _ _ _ _ _ (omega arith) (c .before .before .before .before .before .before .before .before .answer .given .1) (c .before .before .before .before .before .before .before .before .before .before .before .before .before .path-or-reached .ensures) in
+    let A = path-answer _ _ _ _ _ _ _ (omega arith) (c .before .before .before .before .before .before .before .before .answer .given .1) (c .before .before .before .before .before .before .before .before .before .before .before .before .before .path-or-reached .ensures) in
     path-stepped (now (S .args .row)) (now (S .args .firsts)) (now (S .args .seconds)) (S .pre .0) (S .pre .1 .0) (c .before .before .before .before .before .before .before .before .before .before .before .before .before .before .before .before .before .before .before .before .table .ensures) _ (A .1) _ _ (c .before .before .augment .ensures)
 
 same-length-3 : tie.Need-same-length-3
@@ -110,7 +110,7 @@ same-length-4 c = search needs
 returns-2 : tie.Need-returns-2
 returns-2 c =
     let S = c .before .before .before .before .before .before .before .before .before .before .before .before .before .before .before .before .before .before .before .before in
-    let A = none-answer _ _ _ _ _ (c .enum-told .given .1) (c .before .before .before .before .before .path-or-reached .ensures) in
+    let A = none-answer _ _ _ _ _ _ (c .enum-told .given .1) (c .before .before .before .before .before .path-or-reached .ensures) in
     none-stepped (now (S .args .row)) (now (S .args .firsts)) (now (S .args .seconds)) (S .pre .0) (S .pre .1 .0) (c .before .before .before .before .before .before .before .before .before .before .before .before .table .ensures) _ (A .0) (A .2)
 
 pub improve-spec : {M : Type 1} → statement M

@@ -1,4 +1,4 @@
--- The path was written; or the classes are, where a table for them is lent.
+-- The path was written; or the tables that are lent are filled.
 use native.Mathlib.Omega.{arith}
 use Rattle.search.proofs.Answers.{path-explored, sought-none, none-explored}
 use borrow.Author.Needs.{needs}
@@ -7,7 +7,7 @@ use Rattle.search.proofs.answer.answer_in.Tie as tie
 
 find-path-requires : tie.Need-find-path-requires
 find-path-requires c κs =
-    let pre = c .before .before .before .before .before .before .before .before .before .before .before .before .before .before .before .pre in (pre .0, (pre .1 .0, (pre .1 .1 .0, pre .1 .1 .1 .1)))
+    let pre = c .before .before .before .before .before .before .before .before .before .before .before .before .before .before .before .before .pre in (pre .0, (pre .1 .0, (pre .1 .1 .0, pre .1 .1 .1 .1)))
 
 enum-told : tie.Need-enum-told
 enum-told c = search needs
@@ -36,14 +36,21 @@ same-length-6 c = search needs
 returns : tie.Need-returns
 returns c =
     let find-path = c .before .before .before .before .before .before .before .before .before .before .before .before .before .before .find-path in
-    path-explored _ _ _ _ _ _ _ _ _ _ (find-path .result) _ _ (c .enum-told2 .given .1) (find-path .ensures)
+    path-explored _ _ _ _ _ _ _ _ _ _ (find-path .result) _ _ _ (c .enum-told2 .given .1) (find-path .ensures)
+
+tell-reached-requires : tie.Need-tell-reached-requires
+tell-reached-requires c κs =
+    let pre = c .before .before .before .before .before .before .before .before .before .before .before .before .before .before .before .before .before .before .before .before .before .before .before .before .before .before .before .before .before .before .before .before .before .pre in
+    let find-path = c .before .before .before .before .before .before .before .before .before .before .before .before .before .before .before .before .find-path in
+    let none = sought-none _ _ _ _ _ _ _ _ _ _ (find-path .result) (c .before .before .enum-told .given .1) (find-path .ensures) in
+    omega (arith, pre .1 .1 .1 .0 .1, none .1 .search .state .births-long)
 
 classes-requires : tie.Need-classes-requires
 classes-requires c κs =
-    let pre = c .before .before .before .before .before .before .before .before .before .before .before .before .before .before .before .before .before .before .before .before .before .before .before .before .before .before .before .before .before .before .before .before .before .before .before .before .pre in
-    let find-path = c .before .before .before .before .before .before .before .before .before .before .before .before .before .before .before .before .before .before .before .before .find-path in
-    let none = sought-none _ _ _ _ _ _ _ _ _ _ (find-path .result) (c .before .before .before .before .before .before .enum-told .given .1) (find-path .ensures) in
-    (none .1, (none .2, pre .1 .1 .1 .0 (c .before .before .before .before .before .if1 .taken)))
+    let pre = c .before .before .before .before .before .before .before .before .before .before .before .before .before .before .before .before .before .before .before .before .before .before .before .before .before .before .before .before .before .before .before .before .before .before .before .before .before .before .before .before .before .before .pre in
+    let find-path = c .before .before .before .before .before .before .before .before .before .before .before .before .before .before .before .before .before .before .before .before .before .before .before .before .before .find-path in
+    let none = sought-none _ _ _ _ _ _ _ _ _ _ (find-path .result) (c .before .before .before .before .before .before .before .before .before .before .before .enum-told .given .1) (find-path .ensures) in
+    (none .1, (none .2, pre .1 .1 .1 .0 .0 (c .before .before .before .before .before .if1 .taken)))
 
 same-length-7 : tie.Need-same-length-7
 same-length-7 c = search needs
@@ -66,14 +73,14 @@ same-length-12 c = search needs
 same-length-13 : tie.Need-same-length-13
 same-length-13 c = search needs
 
-returns-2 : tie.Need-returns-2
-returns-2 c =
-    let find-path = c .before .before .before .before .before .before .before .before .before .before .before .before .before .before .before .before .before .before .before .before .before .before .before .before .before .find-path in
-    let none = sought-none _ _ _ _ _ _ _ _ _ _ (find-path .result) (c .before .before .before .before .before .before .before .before .before .before .before .enum-told .given .1) (find-path .ensures) in
-    none-explored _ _ _ _ _ _ _ _ _ _ (c .before .before .before .before .before .before .before .before .before .before .before .before .before .before .before .before .before .before .before .before .before .before .before .before .before .before .before .before .before .before .before .before .before .before .before .before .before .before .before .before .before .args .class .now) _ none (λ l. c .before .before .before .before .classes .ensures)
-
 same-length-14 : tie.Need-same-length-14
 same-length-14 c = search needs
+
+returns-2 : tie.Need-returns-2
+returns-2 c =
+    let find-path = c .before .before .before .before .before .before .before .before .before .before .before .before .before .before .before .before .before .before .before .before .before .before .before .before .before .before .before .before .before .before .find-path in
+    let none = sought-none _ _ _ _ _ _ _ _ _ _ (find-path .result) (c .before .before .before .before .before .before .before .before .before .before .before .before .before .before .before .before .enum-told .given .1) (find-path .ensures) in
+    none-explored _ _ _ _ _ _ _ _ _ _ none (c .before .before .before .before .before .before .before .before .before .before .before .before .before .before .before .before .before .before .before .before .before .before .before .before .before .before .before .before .before .before .before .before .before .before .before .before .before .before .before .before .before .before .before .before .before .before .before .args .class .now) _ _ _ (λ l. c .before .before .before .before .classes .ensures) (c .before .before .before .before .before .before .before .before .before .before .before .before .before .tell-reached .ensures)
 
 same-length-15 : tie.Need-same-length-15
 same-length-15 c = search needs
@@ -90,11 +97,17 @@ same-length-18 c = search needs
 same-length-19 : tie.Need-same-length-19
 same-length-19 c = search needs
 
+same-length-20 : tie.Need-same-length-20
+same-length-20 c = search needs
+
+same-length-21 : tie.Need-same-length-21
+same-length-21 c = search needs
+
 returns-3 : tie.Need-returns-3
 returns-3 c =
-    let find-path = c .before .before .before .before .before .before .before .before .before .before .before .before .before .before .before .find-path in
-    let none = sought-none _ _ _ _ _ _ _ _ _ _ (find-path .result) (c .before .enum-told .given .1) (find-path .ensures) in
-    none-explored _ _ _ _ _ _ _ _ _ _ (c .before .before .before .before .before .before .before .before .before .before .before .before .before .before .before .before .before .before .before .before .before .before .before .before .before .before .before .before .before .before .before .args .class .now) _ none (λ l. absurd (omega (arith, l, c .if1 .left)))
+    let find-path = c .before .before .before .before .before .before .before .before .before .before .before .before .before .before .before .before .before .before .before .before .find-path in
+    let none = sought-none _ _ _ _ _ _ _ _ _ _ (find-path .result) (c .before .before .before .before .before .before .enum-told .given .1) (find-path .ensures) in
+    none-explored _ _ _ _ _ _ _ _ _ _ none (c .before .before .before .before .before .before .before .before .before .before .before .before .before .before .before .before .before .before .before .before .before .before .before .before .before .before .before .before .before .before .before .before .before .before .before .before .before .args .class .now) _ _ _ (λ l. absurd (omega (arith, l, c .if1 .left))) (c .before .before .before .tell-reached .ensures)
 
 pub answer-in-spec : {M : Type 1} → statement M
 answer-in-spec =
@@ -110,6 +123,7 @@ answer-in-spec =
     same-length-5
     same-length-6
     returns
+    tell-reached-requires
     classes-requires
     same-length-7
     same-length-8
@@ -118,11 +132,13 @@ answer-in-spec =
     same-length-11
     same-length-12
     same-length-13
-    returns-2
     same-length-14
+    returns-2
     same-length-15
     same-length-16
     same-length-17
     same-length-18
     same-length-19
+    same-length-20
+    same-length-21
     returns-3)

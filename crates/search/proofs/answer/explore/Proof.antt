@@ -11,46 +11,53 @@ use Rattle.search.proofs.answer.explore.Tie as tie
 mul-nodes : tie.Need-mul-nodes
 mul-nodes c = search needs
 
-array-borrow-prefix-via : tie.Need-array-borrow-prefix-via
-array-borrow-prefix-via c = search needs
+array-borrow-prefix-birth : tie.Need-array-borrow-prefix-birth
+array-borrow-prefix-birth c = search needs
 
 slice-aggregate-answer-in : tie.Need-slice-aggregate-answer-in
 slice-aggregate-answer-in c =
+    let pre = c .before .before .before .before .before .before .pre in sym (length-take-le _ _ (omega (arith, pre .0 .pairs-few)))
+
+array-borrow-prefix-via : tie.Need-array-borrow-prefix-via
+array-borrow-prefix-via c = search needs
+
+slice-aggregate-answer-in-2 : tie.Need-slice-aggregate-answer-in-2
+slice-aggregate-answer-in-2 c =
     let pre = c .before .before .before .before .before .before .before .pre in sym (length-take-le _ _ (omega (arith, pre .0 .pairs-few)))
 
 array-borrow-prefix-base : tie.Need-array-borrow-prefix-base
 array-borrow-prefix-base c = search needs
 
-slice-aggregate-answer-in-2 : tie.Need-slice-aggregate-answer-in-2
-slice-aggregate-answer-in-2 c =
+slice-aggregate-answer-in-3 : tie.Need-slice-aggregate-answer-in-3
+slice-aggregate-answer-in-3 c =
     let pre = c .before .before .before .before .before .before .before .before .pre in sym (length-take-le _ _ (omega (arith, pre .0 .pairs-few)))
 
 array-borrow-prefix-mark : tie.Need-array-borrow-prefix-mark
 array-borrow-prefix-mark c = search needs
 
-slice-aggregate-answer-in-3 : tie.Need-slice-aggregate-answer-in-3
-slice-aggregate-answer-in-3 c =
+slice-aggregate-answer-in-4 : tie.Need-slice-aggregate-answer-in-4
+slice-aggregate-answer-in-4 c =
     let pre = c .before .before .before .before .before .before .before .before .before .pre in sym (length-take-le _ _ (omega (arith, pre .0 .pairs-few)))
 
 array-borrow-prefix-queue : tie.Need-array-borrow-prefix-queue
 array-borrow-prefix-queue c = search needs
 
-slice-aggregate-answer-in-4 : tie.Need-slice-aggregate-answer-in-4
-slice-aggregate-answer-in-4 c =
+slice-aggregate-answer-in-5 : tie.Need-slice-aggregate-answer-in-5
+slice-aggregate-answer-in-5 c =
     let pre = c .before .before .before .before .before .before .before .before .before .before .pre in sym (length-take-le _ _ (omega (arith, pre .0 .pairs-few)))
 
 answer-in-requires : tie.Need-answer-in-requires
 answer-in-requires c κs =
-    let args = c .before .before .before .before .before .before .before .before .before .before .before .before .args in
-    let pre = c .before .before .before .before .before .before .before .before .before .before .before .before .pre in
+    let args = c .before .before .before .before .before .before .before .before .before .before .before .before .before .args in
+    let pre = c .before .before .before .before .before .before .before .before .before .before .before .before .before .pre in
     let few = pre .0 .pairs-few in
-    let g = graphOf (args .pairs) (args .source) (args .tails .now) (args .heads .now) in (
+    let clear = front-clear (graphOf (args .pairs) (args .source) (args .tails .now) (args .heads .now)) 256 (omega (arith, few)) in (
       pre .0,
       (
-        (pre .1 .0, front-clear g 256 (omega (arith, few))),
+        (clear, clear),
         (
           (length-take-le _ _ (omega (arith, few)), length-take-le _ _ (omega (arith, few)), length-take-le _ _ (omega (arith, few))),
-          pre .1 .1,
+          pre .1,
         ),
       ),
     )
@@ -72,14 +79,16 @@ explore-spec =
     tie.close
     (tie.spec
     mul-nodes
-    array-borrow-prefix-via
+    array-borrow-prefix-birth
     slice-aggregate-answer-in
-    array-borrow-prefix-base
+    array-borrow-prefix-via
     slice-aggregate-answer-in-2
-    array-borrow-prefix-mark
+    array-borrow-prefix-base
     slice-aggregate-answer-in-3
-    array-borrow-prefix-queue
+    array-borrow-prefix-mark
     slice-aggregate-answer-in-4
+    array-borrow-prefix-queue
+    slice-aggregate-answer-in-5
     answer-in-requires
     same-length
     same-length-2

@@ -1,6 +1,6 @@
 -- The source's mate is reached and the path restored, or the tables show that there is none.
 use mathlib.Core.Path.{refl}
-use Rattle.search.proofs.Answers.{source-small, restorable, path-written, reached-only, exhausted}
+use Rattle.search.proofs.Answers.{source-small, restorable, path-written, exhausted}
 use borrow.Author.Needs.{needs}
 use Rattle.search.proofs.answer.find_path.Statement.{statement}
 use Rattle.search.proofs.answer.find_path.Tie as tie
@@ -46,10 +46,8 @@ returns c =
     let search = c .before .before .before .before .before .before .before .before .before .before .before .before .before .before .before .before .before .before .search in
     let if1 = c .before .before .before .before .before .before .before .if1 in
     let mate-of = c .before .before .before .before .before .before .mate-of in
-    let restore = c .before .before .restore in (
-      path-written _ _ _ _ _ _ _ _ _ (search .ensures) (if1 .taken) _ (mate-of .ensures) _ _ _ (restore .ensures),
-      reached-only _ _ _ _ _ _ _ _ _ (search .ensures),
-    )
+    let restore = c .before .before .restore in
+    path-written _ _ _ _ _ _ _ _ _ (search .ensures) (if1 .taken) _ (mate-of .ensures) _ _ _ (restore .ensures)
 
 same-length-7 : tie.Need-same-length-7
 same-length-7 c = search needs
