@@ -4,10 +4,11 @@
 --   zip-within, zip-at    the pair at a place: what both lists have there
 --   zip-seconds     the second numbers of what was zipped
 --   firsts-length, seconds-length    as many numbers as pairs
+--   firsts-append, seconds-append    of pairs behind others
 --   zip-ends        pairs are their first and second numbers, zipped
 --   pairs-stored    pairs stored at the front of two lists, read back
 use mathlib.Core.Path.{_≡_, refl, ap}
-use mathlib.Core.List.{List, [], _∷_}
+use mathlib.Core.List.{List, [], _∷_, _++_}
 use Prim.Native.Nat.{ℕ, zero, suc, _≤_, _<_}
 use native.Mathlib.Omega.{arith}
 use lib.ListN.{length, getD, take}
@@ -53,6 +54,16 @@ pub seconds-length : (xs : List Pair) → length (secondsOf xs) ≡ length xs
 unfolding secondsOf
 seconds-length [] = refl
 seconds-length (x ∷ xs) = ap suc (seconds-length xs)
+
+pub firsts-append : (ps qs : List Pair) → firstsOf (ps ++ qs) ≡ firstsOf ps ++ firstsOf qs
+unfolding firstsOf
+firsts-append [] qs = refl
+firsts-append (p ∷ ps) qs = ap (λ (l : List ℕ). p .first ∷ l) (firsts-append ps qs)
+
+pub seconds-append : (ps qs : List Pair) → secondsOf (ps ++ qs) ≡ secondsOf ps ++ secondsOf qs
+unfolding secondsOf
+seconds-append [] qs = refl
+seconds-append (p ∷ ps) qs = ap (λ (l : List ℕ). p .second ∷ l) (seconds-append ps qs)
 
 pub zip-ends : (xs : List Pair) → zipPairs (firstsOf xs) (secondsOf xs) ≡ xs
 unfolding zipPairs firstsOf secondsOf

@@ -11,18 +11,8 @@ use lib.ListN.{length, set, length-append}
 use lib.Seq.{sets}
 use Rattle.counting.specs.Pairs.{Pair, pair, firstsOf, secondsOf}
 use Rattle.counting.proofs.Stores.{sets-append}
-use Rattle.counting.proofs.Zips.{firsts-length, seconds-length}
+use Rattle.counting.proofs.Zips.{firsts-length, seconds-length, firsts-append, seconds-append}
 use Rattle.pairing.specs.Table.{PairsWritten, WritingPairs}
-
-firsts-append : (ps qs : List Pair) → firstsOf (ps ++ qs) ≡ firstsOf ps ++ firstsOf qs
-unfolding firstsOf
-firsts-append [] qs = refl
-firsts-append (p ∷ ps) qs = ap (λ (l : List ℕ). p .first ∷ l) (firsts-append ps qs)
-
-seconds-append : (ps qs : List Pair) → secondsOf (ps ++ qs) ≡ secondsOf ps ++ secondsOf qs
-unfolding secondsOf
-seconds-append [] qs = refl
-seconds-append (p ∷ ps) qs = ap (λ (l : List ℕ). p .second ∷ l) (seconds-append ps qs)
 
 pub put-one : (xs ys : List ℕ) (at a b : ℕ) → PairsWritten xs ys at (set xs at a) (set ys at b) (at + 1) (pair a b ∷ [])
 unfolding firstsOf secondsOf
