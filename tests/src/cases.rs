@@ -18,12 +18,12 @@ use crate::stock_trial;
 use crate::truth::{graph_owed, graph_truth, plan_owed, sheet_owed, stock_truth, Count};
 use std::fs;
 
-/// What the trial itself says, against document 01.
+/// What the trial itself says, against the documents.
 fn by_trial<T: PartialEq + std::fmt::Debug>(file: &[u8], found: T, right: T) -> Trial {
     if found == right {
         Ok(())
     } else {
-        Err(format!("the trial says {found:?}, document 01 {right:?}\n{}", shown(file)))
+        Err(format!("the trial says {found:?}, the documents {right:?}\n{}", shown(file)))
     }
 }
 

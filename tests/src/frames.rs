@@ -1,6 +1,7 @@
 //! Files of hexadecimal frames (document 01, "Frames"), written for the tests and read by the trial.
+//!   LF, CR                line feed and carriage return
 //!   Form                  a kind of file: its header's kind and digits, its body kinds in order, its end's kind
-//!   Text                  a file cut into lines
+//!   Text                  a file cut into lines, each ended by LF or by CR LF (document 02, L1)
 //!   Text::answers         questions 2, 3, 4, 6 and 7, which every kind of file is asked
 //!   first_no              the number of the first question answered no
 //!   number                digits of a line as a number
@@ -29,7 +30,10 @@ const BODY_DIGITS: usize = 4;
 
 pub const GREATEST_FILE: usize = 60_000;
 
-/// Lines without their line feeds; `ended` is whether the last one had its own.
+pub const LF: u8 = b'\n';
+pub const CR: u8 = b'\r';
+
+/// Lines without their ends; `ended` is whether the last one had its own.
 pub struct Text<'a> {
     pub bytes: &'a [u8],
     pub lines: Vec<&'a [u8]>,
@@ -37,11 +41,16 @@ pub struct Text<'a> {
 }
 
 impl<'a> Text<'a> {
+    /// A CR belongs to a line's end only right before the LF; any other is a byte of its line.
     pub fn of(bytes: &'a [u8]) -> Text<'a> {
-        let mut lines: Vec<&[u8]> = bytes.split(|byte| *byte == b'\n').collect();
-        let ended = lines.last().is_some_and(|rest| rest.is_empty());
-        if ended {
-            lines.pop();
+        let mut lines: Vec<&[u8]> = bytes.split(|byte| *byte == LF).collect();
+        let rest = lines.pop().unwrap_or(&[]);
+        for line in &mut lines {
+            *line = line.strip_suffix(&[CR]).unwrap_or(line);
+        }
+        let ended = rest.is_empty();
+        if !ended {
+            lines.push(rest);
         }
         Text { bytes, lines, ended }
     }

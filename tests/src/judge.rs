@@ -1,6 +1,6 @@
 //! Calls to an engine, each judged whole: refusal number, size, every byte of the buffer and around it, and the tally.
 //!   Judge                 an engine, a source of numbers, and counts of what was tried
-//!   graph, stock          a file handed to the calls for its kind, and judged by what document 01 says of it
+//!   graph, stock          a file handed to the calls for its kind, and judged by what the documents say of it
 //!   graph_answer          the same, and the answer, empty for a refusal
 //!   made_graph, made_stock    the same of a graph or stock that was made to be accepted
 //!   short_buffers         the same with a buffer that is too small

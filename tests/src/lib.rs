@@ -1,11 +1,11 @@
-//! The engine tried from outside. The trial is written from document 01 alone and shares nothing with the engine.
+//! The engine tried from outside. The trial is written from documents 01 and 02 alone and shares nothing with the engine.
 //!   random          a seeded source of numbers
 //!   frames          files of frames: written and read
 //!   graph_trial     graphs, regular paths, barriers and certificates, by trial of everything
 //!   stock_trial     stocks, pairings, marks and plans, by trial of everything
 //!   blossom         maximum matchings of any size
 //!   arc_matching    regular paths of any size, by matchings
-//!   truth           what document 01 says of a file
+//!   truth           what the documents say of a file
 //!   engine          the calls, and the proved engine where it is linked
 //!   reference       an engine made of the trial's parts
 //!   wrong, slips    engines with one part wrong

@@ -108,7 +108,6 @@ pub fn other_bytes(programs: &Programs, random: &mut Random) -> Trial {
     };
     refused(&|file| file[..file.len() - 1].to_vec(), 3)?;
     refused(&|file| file.to_ascii_lowercase(), 3)?;
-    refused(&|file| String::from_utf8_lossy(file).replace('\n', "\r\n").into_bytes(), 3)?;
     refused(&|file| [b"\xEF\xBB\xBF", file].concat(), 3)?;
     refused(&|file| [file, file].concat(), 6)?;
     for byte in &BYTES[DIGITS..] {

@@ -2,7 +2,7 @@
 //! and must fail on each engine that has one part replaced by a wrong one (wrong.rs).
 //!   GraphAnswer       a path or a barrier's classes
 //!   Parts             the engine as a record of its parts
-//!   Parts::right      each part as document 01 says
+//!   Parts::right      each part as the documents say
 
 use crate::arc_matching;
 use crate::blossom;

@@ -1,4 +1,4 @@
-//! What document 01 says of a file that is handed in: by trial of everything where it is small enough, by matchings otherwise.
+//! What documents 01 and 02 say of a file that is handed in: by trial of everything where it is small enough, by matchings otherwise.
 //!   GraphTruth, graph_truth    refusal, or the graph and whether it has a path, or else its canonical classes
 //!   StockTruth, stock_truth    refusal, or the stock and its standing
 //!   Owed                       what a call owes: refusal number, the count that rises, and whether an answer is right

@@ -15,9 +15,9 @@ use Rattle.counting.proofs.Booleans.{pick-true, pick-false, by-test, true-false
 use Rattle.frames.specs.Frames.{linesOf, isWholeFile, hexFrom, Form, pathForm, barrierForm, hasHeader}
 use Rattle.frames.specs.Questions.{Question, ask, firstNo}
 use Rattle.frames.specs.Shape.{headerQuestions, headerFault}
-use Rattle.frames.specs.Writes.{barrierLine, beginsBarrier}
+use Rattle.frames.specs.Writes.{barrierLine, barrierLineCrLf, beginsBarrier}
 use Rattle.frames.proofs.Questions.{first-stop, accepted}
-use Rattle.frames.proofs.Begins.{begins-split, begins-header}
+use Rattle.frames.proofs.Begins.{by-first-line, begins-header}
 use Rattle.skew.specs.Graph.{Graph, nodes}
 use Rattle.files.specs.CertificateFile.{isPathFile, pathFault, pathQuestions, barrierFault, barrierQuestions, certFault}
 use Rattle.files.proofs.Asked.{path-asked, barrier-asked}
@@ -36,12 +36,16 @@ no-header k f rest h =
     first-stop (headerQuestions k f) rest (λ z. no-header-refused f (sym e ∙ z)) ∙ e
 
 -- BY THE FIRST LINE
-begins-kind : (rest : List ℕ) → isPathFile (barrierLine ++ rest) ≡ false
+other-feed : (rest : List ℕ) → isPathFile (barrierLine ++ rest) ≡ false
 unfolding linesOf hexFrom
-begins-kind rest = refl
+other-feed rest = refl
+
+other-both : (rest : List ℕ) → isPathFile (barrierLineCrLf ++ rest) ≡ false
+unfolding linesOf hexFrom
+other-both rest = refl
 
 pub begins-other : (f : List ℕ) → beginsBarrier f ≡ true → isPathFile f ≡ false
-begins-other f b = rw (begins-split barrierLine f b) (begins-kind (drop 3 f))
+begins-other f b = by-first-line f b (λ (g : List ℕ). isPathFile g ≡ false) other-feed other-both
 
 module _ (g : Graph) (f : List ℕ) where
   pub cert-barrier : beginsBarrier f ≡ true → certFault g f ≡ barrierFault g f

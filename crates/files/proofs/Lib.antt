@@ -4,7 +4,9 @@
 --   PairScans        questions 9 to 13 put to such pairs from the front
 --   SharedCameras    question 14, with a table of marks
 --   AnswerLines      answers written line by line
+--   AnswerEnds       an answer is whole lines, each ended by a line feed alone
 --   Asked            document 03's chains of questions, as lists
+--   SameLines        files of the same lines, whichever ends the lines have
 --   AcceptedFiles    what the questions settle of a file
 --   SheetBytes       what a standing sheet's bytes tell
 --   GraphFiles       the questions of a graph file
@@ -17,7 +19,9 @@ pub mod Tables
 pub mod PairScans
 pub mod SharedCameras
 pub mod AnswerLines
+pub mod AnswerEnds
 pub mod Asked
+pub mod SameLines
 pub mod AcceptedFiles
 pub mod SheetBytes
 pub mod GraphFiles

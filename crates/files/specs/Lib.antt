@@ -3,6 +3,7 @@
 --   GraphFile          graph files: questions 5 and 8 to 10, and the graph a file holds
 --   StockFile          stock files: questions 5 and 8 to 14, the stock a file holds; plans and standing sheets as they are written
 --   CertificateFile    paths and barriers: questions 4 and 8, 9, whether one holds, and as they are written
+--   SameLines          what is promised of files of the same lines, whichever ends the lines have
 --   Answers            answers as they are written line by line
 --   Readers            what reading a file answers, and holds in lent slices
 --   CertificateReaders the same of a certificate
@@ -10,6 +11,7 @@ pub mod Tables
 pub mod GraphFile
 pub mod StockFile
 pub mod CertificateFile
+pub mod SameLines
 pub mod Answers
 pub mod Readers
 pub mod CertificateReaders

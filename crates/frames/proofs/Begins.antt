@@ -3,10 +3,11 @@
 --   begins-step, begins-other    compared byte by byte: an equal byte, another byte
 --   begins-done                  all bytes of the text compared
 --   begins-split                 a file that does is the text and what stands behind it
+--   by-first-line                what holds of every file that begins with a barrier's first line, ended either way
 --   digit-byte, barrier-digits   which byte a digit below ten is; the two digits of a barrier's kind
 --   header-begins                a whole file with a barrier's header begins with the barrier's first line
 --   begins-header                so for a whole file the two are one question, question 4
-use mathlib.Core.Path.{_≡_, refl, ap, sym, _∙_}
+use mathlib.Core.Path.{_≡_, refl, ap, sym, subst, _∙_}
 use mathlib.Core.Logic.{_⊎_, inl, inr, ⊎-elim}
 use mathlib.Core.Bool.{true, false, _&&_, and-false}
 use mathlib.Core.List.{List, [], _∷_, _++_}
@@ -18,12 +19,12 @@ use lib.ListN.{length, getD, drop, drop-of-length-le}
 use lib.Seq.{drop-cons, getD-take}
 use borrow.Author.Tests.{eq-eqb, ne-eqb, eqb-true, leb-true, lt-leb, lt-ltb, ltb-true}
 use Rattle.counting.specs.Tests.{all}
-use Rattle.counting.proofs.Booleans.{and-left, and-right, and-two, or-cases, by-test, true-false, same-or}
+use Rattle.counting.proofs.Booleans.{and-left, and-right, and-two, or-right, or-cases, by-test, true-false}
 use Rattle.counting.proofs.Membership.{all-getD}
 use Rattle.frames.specs.Frames.{isIn, isDigit, digitOf, linesOf, endsWhole, isFrame, isWholeFile, hexFrom, hexAt, barrierForm, isFrameOf, firstLine, hasHeader}
 use Rattle.frames.specs.Lines.{lineEnd, lineLength, part, LineAt}
-use Rattle.frames.specs.Writes.{beginsWith, barrierLine, beginsBarrier}
-use Rattle.frames.proofs.LineEnds.{end-other}
+use Rattle.frames.specs.Writes.{beginsWith, barrierLine, barrierLineCrLf, beginsBarrier}
+use Rattle.frames.proofs.LineEnds.{byte-inside, end-bytes}
 use Rattle.frames.proofs.LinePlaces.{line-here, lines-here, ends-here, part-length}
 use Rattle.frames.proofs.HexNumbers.{hex-two, hex-part, digit-small}
 
@@ -50,7 +51,7 @@ module _ (text f : List ℕ) (i : ℕ) where
   unfolding beginsWith
   begins-done h = rw (drop-of-length-le text h)
 
-pub begins-split : (text f : List ℕ) → beginsWith text f ≡ true → f ≡ text ++ drop (length text) f
+begins-split : (text f : List ℕ) → beginsWith text f ≡ true → f ≡ text ++ drop (length text) f
 unfolding beginsWith
 begins-split [] f h = refl
 begins-split (c ∷ cs) [] h = true-false h refl
@@ -58,6 +59,13 @@ begins-split (c ∷ cs) (d ∷ ds) h =
     let e : d ≡ c = eqb-true d c (and-left (eqb d c) (beginsWith cs ds) h) in
     let r = begins-split cs ds (and-right (eqb d c) (beginsWith cs ds) h) in
     cc
+
+-- what holds of every file that begins with the barrier's first line, ended either way
+pub by-first-line : (f : List ℕ) → beginsBarrier f ≡ true → (P : List ℕ → Type 0) → ((rest : List ℕ) → P (barrierLine ++ rest)) →
+    ((rest : List ℕ) → P (barrierLineCrLf ++ rest)) → P f
+by-first-line f b P p q =
+    ⊎-elim (λ t. subst P (sym (begins-split barrierLine f t)) (p (drop 3 f))) (λ t. subst P (sym (begins-split barrierLineCrLf f t)) (q (drop 4 f)))
+    (or-cases (beginsWith barrierLine f) (beginsWith barrierLineCrLf f) b)
 
 -- DIGITS of a kind
 digit-byte : (c v : ℕ) → isDigit c ≡ true → digitOf c ≡ v → v < 10 → c ≡ 48 + v
@@ -127,34 +135,54 @@ module _ (f : List ℕ) (whole : isWholeFile f ≡ true) (some : 0 < length f) (
       let m : 0 < next - end = ltb-true _ _ (and-left (ltb 0 (next - end)) (endsWhole (drop next f)) e) in
       omega arith
 
-  ended : getD f end 0 ≡ 10
-  ended =
-      let m = more in
-      let g = line .goes in
-      let h = line .high in
-      ⊎-elim (λ e. e) (λ n. let a = end-other f end (omega arith) n in absurd (omega arith)) (same-or (getD f end 0) 10)
+  ended : 0 < lineEnd (drop end f)
+  unfolding next
+  ended = omega (arith, more)
+
+  kind : (getD f 0 0 ≡ 51) × (getD f 1 0 ≡ 49)
+  kind = barrier-digits (getD f 0 0) (getD f 1 0) (digit 0 (omega arith)) (digit 1 (omega arith)) number
+
+  -- behind the kind stands a line feed, or a carriage return and a line feed
+  header-feed : getD f 2 0 ≡ 10 → beginsWith barrierLine f ≡ true
+  header-feed e =
+      let l : 2 < length f = omega (arith, size, more, line .high) in
+      begins-step barrierLine f 0 (omega arith) (omega arith) (kind .0) ∙
+      begins-step barrierLine f 1 (omega arith) (omega arith) (kind .1) ∙
+      begins-step barrierLine f 2 (omega arith) (omega arith) e ∙ begins-done barrierLine f 3 (omega arith)
+
+  header-both : getD f 2 0 ≡ 13 → getD f 3 0 ≡ 10 → beginsWith barrierLineCrLf f ≡ true
+  header-both e g =
+      let l : 3 < length f = byte-inside f 3 (λ z. absurd (omega arith)) in
+      begins-step barrierLineCrLf f 0 (omega arith) (omega arith) (kind .0) ∙
+      begins-step barrierLineCrLf f 1 (omega arith) (omega arith) (kind .1) ∙
+      begins-step barrierLineCrLf f 2 (omega arith) (omega arith) e ∙
+      begins-step barrierLineCrLf f 3 (omega arith) (omega arith) g ∙ begins-done barrierLineCrLf f 4 (omega arith)
 
   header-begins : beginsBarrier f ≡ true
   header-begins =
-      let d = barrier-digits (getD f 0 0) (getD f 1 0) (digit 0 (omega arith)) (digit 1 (omega arith)) number in
-      let e : getD f 2 0 ≡ 10 = rw size at ended in
-      let l : 2 < length f = omega (arith, size, more, line .high) in
-      begins-step barrierLine f 0 (omega arith) (omega arith) (d .0) ∙
-      begins-step barrierLine f 1 (omega arith) (omega arith) (d .1) ∙
-      begins-step barrierLine f 2 (omega arith) (omega arith) e ∙ begins-done barrierLine f 3 (omega arith)
+      let e : 0 < lineEnd (drop 2 f) = rw size at ended in
+      ⊎-elim (λ t. rw (header-feed t))
+      (λ t. or-right (beginsWith barrierLine f) (beginsWith barrierLineCrLf f) (header-both (t .0) (t .1))) (end-bytes f 2 e)
 
 lines-none : (f : List ℕ) → 0 < length (linesOf f) → 0 < length f
 unfolding linesOf
 lines-none [] h = h
 lines-none (c ∷ cs) h = omega arith
 
-begins-has : (rest : List ℕ) → hasHeader barrierForm (barrierLine ++ rest) ≡ true
+has-feed : (rest : List ℕ) → hasHeader barrierForm (barrierLine ++ rest) ≡ true
 unfolding linesOf hexFrom
-begins-has rest = rw (lt-ltb 0 (suc (length (linesOf rest))) (omega arith))
+has-feed rest = rw (lt-ltb 0 (suc (length (linesOf rest))) (omega arith))
+
+has-both : (rest : List ℕ) → hasHeader barrierForm (barrierLineCrLf ++ rest) ≡ true
+unfolding linesOf hexFrom
+has-both rest = rw (lt-ltb 0 (suc (length (linesOf rest))) (omega arith))
 
 pub begins-header : (f : List ℕ) → isWholeFile f ≡ true → beginsBarrier f ≡ hasHeader barrierForm f
 begins-header f w =
-    by-test (beginsBarrier f) (λ b. b ∙ sym (rw (begins-split barrierLine f b) (begins-has (drop 3 f))))
+    by-test (beginsBarrier f)
+    (λ b.
+    b ∙ sym
+    (by-first-line f b (λ (g : List ℕ). hasHeader barrierForm g ≡ true) has-feed has-both))
     (λ b.
     by-test (hasHeader barrierForm f)
     (λ h.

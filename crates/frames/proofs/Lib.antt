@@ -1,6 +1,7 @@
 -- Laws by subject; each file stands on those above it.
 --   LineEnds      what ends a line
 --   LinePlaces    lines by their places in a file
+--   EitherEnd     files whose lines end either way
 --   HexNumbers    numbers of digits, in a line and in the file
 --   WholeFiles    question 3, line by line
 --   Questions     questions put one after the other
@@ -15,6 +16,7 @@
 --   StoredBodies  what storing the runs of a file gives: its pairs and numbers
 pub mod LineEnds
 pub mod LinePlaces
+pub mod EitherEnd
 pub mod HexNumbers
 pub mod WholeFiles
 pub mod Questions

@@ -1,5 +1,5 @@
 -- How many lines a file of so many bytes has at most.
---   lineBytes lines    the bytes that lines take, each with one byte that ends it
+--   lineBytes lines    the bytes that lines take at least, each with one byte that ends it
 --   lines-bytes        the lines of a file take no more than the file has; the last may lack its end
 --   long-few           so lines of six digits or more are at most a seventh
 use mathlib.Core.Path.{_≡_}

@@ -2,6 +2,8 @@
 --   line-here                                     what a place, the line's length and its line end make a LineAt
 --   SameLine                                      no line end stands from one place up to another
 --   same-start, same-next, same-ended, same-over  so at a line's first byte, past a byte, at a line end, at the file's end
+--   same-control                                  and up to the next control character
+--   control-next, control-here, control-over      where that is: past another byte, here, at the file's end
 --   lines-here, lines-some, last-here             the lines from a place on: the line there, and those from the next on
 --   line-after                                    where the line behind it begins
 --   ends-here                                     whether the last line is ended, from a place on
@@ -17,12 +19,12 @@ use native.Mathlib.Numerals.{add-one}
 use lib.Dec.{ltb}
 use lib.ListN.{length, getD, take, drop, length-drop, drop-of-length-le}
 use lib.Seq.{drop-cons, drop-drop, take-suc, take-all, getD-drop, length-take-le}
-use borrow.Author.Tests.{ltb-true, ltb-false, lt-ltb}
+use borrow.Author.Tests.{ltb-true, ltb-false, lt-ltb, le-ltb}
 use Rattle.counting.specs.Tests.{all}
 use Rattle.counting.proofs.Booleans.{and-left, and-right, and-both, by-test}
 use Rattle.frames.specs.Frames.{withByte, linesOf, endsWhole}
-use Rattle.frames.specs.Lines.{lineEnd, lineLength, part, lineAfter, LineAt}
-use Rattle.frames.proofs.LineEnds.{end-none, end-fits, lines-end, lines-byte, ends-end, ends-byte}
+use Rattle.frames.specs.Lines.{lineEnd, controlAt, lineLength, part, lineAfter, LineAt}
+use Rattle.frames.proofs.LineEnds.{end-none, end-fits, end-above, lines-end, lines-byte, ends-end, ends-byte}
 
 -- THE FIRST LINE of what stands from a place on, and what stands past it
 abbrev firstOf : List ℕ → List ℕ
@@ -76,6 +78,18 @@ length-fits : (s : List ℕ) → lineLength s ≤ length s
 length-fits [] = rw length-nil (omega arith)
 length-fits (c ∷ cs) =
     by-end c cs (λ h. omega (arith, length-end c cs h)) (λ h. omega (arith, length-byte c cs h, length-fits cs))
+
+control-fits : (s : List ℕ) → controlAt s ≤ length s
+unfolding controlAt
+control-fits [] = omega arith
+control-fits (c ∷ cs) = let h = control-fits cs in by-test (ltb c 32) (λ t. rw t (omega arith)) (λ t. rw t (omega arith))
+
+control-line : (s : List ℕ) → lineLength s ≡ controlAt s + lineLength (drop (controlAt s) s)
+unfolding controlAt
+control-line [] = omega arith
+control-line (c ∷ cs) =
+    by-test (ltb c 32) (λ t. rw t (omega arith))
+    (λ t. let h = control-line cs in rw (t, length-byte c cs (end-above c cs (ltb-false _ _ t))) (omega arith))
 
 -- one byte of a line, by its place
 module _ (f : List ℕ) (i : ℕ) where
@@ -162,7 +176,30 @@ pub record SameLine (f : List ℕ) (at i : ℕ) : Type 0 where
 pub same-start : (f : List ℕ) (at : ℕ) → at < length f → SameLine f at at
 same-start f at h = record { low = omega arith; high = omega arith; same = refl }
 
+-- THE NEXT CONTROL CHARACTER, byte by byte
+module _ (f : List ℕ) (i : ℕ) where
+  pub control-next : i < length f → 32 ≤ getD f i 0 → i + controlAt (drop i f) ≡ i + 1 + controlAt (drop (i + 1) f)
+  unfolding controlAt
+  control-next h g = rw (add-one, drop-cons f i 0 h, le-ltb _ _ g) (omega arith)
+
+  pub control-here : i < length f → getD f i 0 < 32 → i + controlAt (drop i f) ≡ i
+  unfolding controlAt
+  control-here h g = rw (drop-cons f i 0 h, lt-ltb _ _ g) (omega arith)
+
+  pub control-over : length f ≤ i → i + controlAt (drop i f) ≡ i
+  unfolding controlAt
+  control-over h = rw (drop-of-length-le f h) (omega arith)
+
 module _ (f : List ℕ) (at i : ℕ) (s : SameLine f at i) where
+  pub same-control : SameLine f at (i + controlAt (drop i f))
+  same-control =
+      let a = control-fits (drop i f) in
+      let b = length-drop i f in
+      let c = control-line (drop i f) in
+      let d = drop-drop (controlAt (drop i f)) i f in
+      let e = s .high in
+      record { low = omega (arith, s .low); high = omega arith; same = s .same ∙ rw c (rw d (omega arith)) }
+
   pub same-next : i < length f → lineEnd (drop i f) ≡ 0 → SameLine f at (i + 1)
   same-next h e =
       let b = length-byte-at f i h e in

@@ -10,16 +10,16 @@ use mathlib.Core.Bool.{Bool, true, false, _&&_, and-false}
 use mathlib.Core.List.{List, [], _∷_}
 use Prim.Native.Nat.{ℕ, _+_, _-_, _%_, _≤_, _<_}
 use native.Mathlib.Omega.{arith}
-use lib.Dec.{ltb, leb, eqb}
-use lib.ListN.{length, getD, drop, List·getD-eq-default}
+use lib.Dec.{ltb, eqb}
+use lib.ListN.{length, getD, drop}
 use lib.Seq.{drop-cons, drop-length, getD-take, getD-drop}
-use borrow.Author.Tests.{lt-ltb, le-ltb, ltb-true, ltb-false, eq-eqb, ne-eqb, leb-true, leb-false}
+use borrow.Author.Tests.{lt-ltb, le-ltb, ltb-true, ltb-false, eq-eqb, ne-eqb}
 use Rattle.counting.specs.Tests.{all}
 use Rattle.counting.proofs.Booleans.{and-both, by-test, true-false}
 use Rattle.counting.proofs.Membership.{all-getD}
 use Rattle.frames.specs.Frames.{isDigit, isFrame, linesOf, endsWhole, isWholeFile}
 use Rattle.frames.specs.Lines.{lineEnd, lineLength, part, LineAt}
-use Rattle.frames.proofs.LineEnds.{end-digit}
+use Rattle.frames.proofs.LineEnds.{byte-inside, end-digit}
 use Rattle.frames.proofs.LinePlaces.{part-snoc, part-length, all-append, line-here, lines-here, ends-here, SameLine, same-start, same-next, same-over}
 
 -- DIGITS of a line, one after the other
@@ -32,9 +32,7 @@ unfolding all
 digits-start f at h = let z : at - at ≡ 0 = omega arith in record { line = same-start f at h; digits = rw z }
 
 pub digit-inside : (f : List ℕ) (i : ℕ) → isDigit (getD f i 0) ≡ true → i < length f
-digit-inside f i d =
-    by-test (leb (length f) i)
-    (λ e. let z : isDigit (getD f i 0) ≡ false = rw (List·getD-eq-default f 0 (leb-true _ _ e)) in true-false d z) (λ e. leb-false _ _ e)
+digit-inside f i d = byte-inside f i (λ z. true-false d (rw z))
 
 pub digits-next : (f : List ℕ) (at i : ℕ) → DigitsUpTo f at i → isDigit (getD f i 0) ≡ true → DigitsUpTo f at (i + 1)
 unfolding all

@@ -1,8 +1,10 @@
 -- Files of lines, a frame a line, and the questions put to a call (document 01, "Frames" and "Questions put to a call"; the definitions are
--- document 03's).
+-- document 03's, with the line ends of document 02, L1).
 --   isIn a b x                                 x is a to b
 --   orElse n m, unless z n                     of two refusals the first, 0 being none; the refusal n, none where z is true
---   withByte c ls, linesOf f                   a byte at the front of the first line; the lines of a file
+--   withByte c ls                              a byte at the front of the first line
+--   isCrLf c cs                                c is a carriage return, and a line feed stands right behind it
+--   linesOf f                                  the lines of a file
 --   endsWhole f                                the last line is ended too
 --   isDigit c, isFrame l, isWholeFile f        question 3: of a byte, of a line, of a file
 --   digitOf c, hexFrom m l                     a digit's value; m with the digits of l behind it
@@ -41,14 +43,17 @@ orElse n m = pick (eqb n 0) m n
 abbrev pub unless : Bool → ℕ → ℕ
 unless z n = pick z 0 n
 
--- LINES, each ended by one line feed; whether the last one is
+-- LINES, each ended by a line feed or by a carriage return and a line feed; whether the last one is
 abbrev pub withByte : ℕ → List (List ℕ) → List (List ℕ)
 withByte c [] = (c ∷ []) ∷ []
 withByte c (l ∷ ls) = (c ∷ l) ∷ ls
 
+abbrev pub isCrLf : ℕ → List ℕ → Bool
+isCrLf c cs = eqb c 13 && eqb (getD cs 0 0) 10
+
 unfoldable pub linesOf : List ℕ → List (List ℕ)
 linesOf [] = []
-linesOf (c ∷ cs) = pick (eqb c 10) ([] ∷ linesOf cs) (withByte c (linesOf cs))
+linesOf (c ∷ cs) = pick (isCrLf c cs) (linesOf cs) (pick (eqb c 10) ([] ∷ linesOf cs) (withByte c (linesOf cs)))
 
 unfoldable pub endsWhole : List ℕ → Bool
 endsWhole [] = true

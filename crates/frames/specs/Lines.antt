@@ -1,5 +1,7 @@
--- Lines by their places in a file (document 01, "Frames"). What ends a line is said in `lineEnd` alone.
+-- Lines by their places in a file (document 01, "Frames"). What ends a line is said in `lineEnd`, and of whole
+-- files in `linesOf` (Frames).
 --   lineEnd s              how many bytes the line end takes that stands at the front of s; 0 where none stands there
+--   controlAt s            how many bytes stand before the first control character of s, as both bytes of a line end are
 --   lineLength s           how many bytes stand before the first line end of s
 --   part i e f             the bytes of f from i up to, not including, e
 --   isPlain n l            the line l is n digits
@@ -13,11 +15,15 @@ use Prim.Native.Nat.{ℕ, zero, suc, _+_, _-_, _<_, _≤_}
 use lib.Dec.{eqb, ltb}
 use lib.ListN.{length, take, drop}
 use Rattle.counting.specs.Tests.{pick, all}
-use Rattle.frames.specs.Frames.{isDigit}
+use Rattle.frames.specs.Frames.{isCrLf, isDigit}
 
 unfoldable pub lineEnd : List ℕ → ℕ
 lineEnd [] = 0
-lineEnd (c ∷ cs) = pick (eqb c 10) 1 0
+lineEnd (c ∷ cs) = pick (isCrLf c cs) 2 (pick (eqb c 10) 1 0)
+
+unfoldable pub controlAt : List ℕ → ℕ
+controlAt [] = 0
+controlAt (c ∷ cs) = pick (ltb c 32) 0 (suc (controlAt cs))
 
 unfoldable pub lineLength : List ℕ → ℕ
 lineLength [] = 0

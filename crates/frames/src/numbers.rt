@@ -16,13 +16,13 @@ pub(crate) fn digit_at(f: &[u8], at: usize) -> bool
     }
     let c = f[at];
     if c < 48 {
-        return false;
+        return false; // below the digit 0
     }
     if c <= 57 {
         return true;
     }
     if c < 65 {
-        return false;
+        return false; // between 9 and A
     }
     c <= 70
 }

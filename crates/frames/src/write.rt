@@ -14,6 +14,9 @@ ghost use Rattle.frames.specs.Writes.{Written, beginsWith, beginsBarrier
 // The first line of a barrier, written at the front and compared by the reader of certificates.
 const BARRIER_LINE: [u8; 3] = *b"31\n";
 
+// The same line ended the other way: compared, never written.
+const BARRIER_LINE_CR_LF: [u8; 4] = *b"31\r\n";
+
 fn digit_byte(d: usize) -> u8
     requires { ⌜ d < 16 ⌝ }
     ensures { λ r. ⌜ r ≡ digitByte d ⌝ }
@@ -130,5 +133,8 @@ pub fn put_barrier_line(out: &mut [u8], at: usize) -> usize
 pub fn begins_barrier(f: &[u8]) -> bool
     ensures { λ r. ⌜ r ≡ beginsBarrier (now (f .entry)) ⌝ }
 {
-    begins_with(f, &BARRIER_LINE)
+    if begins_with(f, &BARRIER_LINE) {
+        return true;
+    }
+    begins_with(f, &BARRIER_LINE_CR_LF)
 }

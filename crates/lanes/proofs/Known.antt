@@ -1,15 +1,17 @@
 -- Known graphs and stocks as files (document 01, "Known graphs and stocks"), by computing.
 --   known-files    what the questions and the check say of them
 --   known-texts    answers byte for byte
+--   known-ends     files with either line end
 use mathlib.Core.Path.{refl}
 use Rattle.counting.specs.Tests.{all, any, among, noneTwice, upFrom, keep}
 use Rattle.counting.specs.Pairs.{secondsOf}
 use Rattle.frames.specs.Frames.{linesOf, endsWhole, hexFrom, hexBytes, laterFit, bodiesFit, pairsIn, numbersIn}
+use Rattle.frames.specs.EitherEnd.{returnsFrom}
 use Rattle.skew.specs.Graph.{matesFit, nodesAlong, isJoined, noMates, endOf, reachesFrom, largestOf, entriesInto, partOnce, partBy, leastOf, classesFrom}
 use Rattle.matching.specs.Stock.{hasPair, noneShared, withFirst, allPairings, mostOf, marksFrom, pairsRise}
 use Rattle.files.specs.StockFile.{markLines, planLines}
 use Rattle.files.specs.CertificateFile.{classLines, pathLines, namesInOrder}
-use Rattle.lanes.specs.Known.{KnownFiles, KnownTexts}
+use Rattle.lanes.specs.Known.{KnownFiles, KnownTexts, KnownEnds}
 
 pub known-files : KnownFiles
 unfolding all any among noneTwice upFrom keep nodesAlong isJoined noMates endOf reachesFrom largestOf entriesInto partOnce partBy leastOf classesFrom hasPair noneShared pairsRise linesOf endsWhole hexFrom hexBytes laterFit bodiesFit pairsIn numbersIn matesFit classLines pathLines namesInOrder secondsOf
@@ -18,3 +20,7 @@ known-files = (refl, refl, refl, refl, refl, refl, refl, refl, refl, refl, refl,
 pub known-texts : KnownTexts
 unfolding all any among noneTwice upFrom keep nodesAlong isJoined noMates endOf reachesFrom partOnce partBy leastOf classesFrom withFirst allPairings mostOf marksFrom linesOf hexFrom hexBytes pairsIn classLines markLines planLines
 known-texts = (refl, refl, refl, refl)
+
+pub known-ends : KnownEnds
+unfolding all any among noneTwice upFrom keep nodesAlong isJoined noMates endOf reachesFrom largestOf entriesInto partOnce partBy leastOf classesFrom hasPair noneShared pairsRise linesOf endsWhole hexFrom hexBytes laterFit bodiesFit pairsIn numbersIn matesFit classLines pathLines namesInOrder secondsOf returnsFrom
+known-ends = (refl, refl, refl, refl, refl, refl, refl, refl, refl, refl, refl, refl, refl, refl, refl, refl, refl, refl)

@@ -3,6 +3,7 @@
 --   Known            known graphs and stocks as files, by computing
 --   Promises         the promises, kept for every file
 --   BytePromises     five of them as document 03 states them
+--   EitherEnd        the promises where lines end either way
 --   Checks           the check's answer
 --   GraphCalls       what the graph call answers
 --   StockCalls       what the stock calls answer
@@ -12,6 +13,7 @@ pub mod Marked
 pub mod Known
 pub mod Promises
 pub mod BytePromises
+pub mod EitherEnd
 pub mod Checks
 pub mod GraphCalls
 pub mod StockCalls

@@ -3,11 +3,17 @@
 --   g1File, g4File, g5File, s5File    G1, G4, G5 and S5
 --   KnownFiles                        what the questions and the check say of them, and of files that are cut short
 --   KnownTexts                        G1's answer, the sheets of S1 and S3 and the plan of S5, as the document prints them
+--   header, ending, throughout        G1's two lines without their ends; a file with every line feed after a carriage return
+--   KnownEnds                         files with such ends, answered alike; files whose lines are ended otherwise, refused with 3
 use mathlib.Core.Path.{_≡_}
+use mathlib.Core.Bool.{true}
 use mathlib.Core.List.{List, [], _∷_, _++_}
-use Prim.Native.Nat.{ℕ}
+use Prim.Native.Nat.{ℕ, suc}
+use lib.Dec.{eqb}
+use lib.ListN.{length, drop}
 use Rattle.formats.specs.Kinds.{arcKind, fitKind, graphEnd, graphKind, litKind, stockEnd, stockKind}
 use Rattle.frames.specs.Frames.{frame4, frame6, frameOf4}
+use Rattle.frames.specs.EitherEnd.{withReturns}
 use Rattle.skew.specs.Graph.{canonical}
 use Rattle.files.specs.GraphFile.{graphIn, graphFault}
 use Rattle.files.specs.StockFile.{stockIn, stockFault, planText, sheetText}
@@ -53,3 +59,31 @@ KnownTexts =
     52 ∷ 70 ∷ 48 ∷ 48 ∷ 48 ∷ 51 ∷ 10 ∷ [])) ×
     (planText (arc 0 1 ∷ arc 2 3 ∷ []) ≡
     (53 ∷ 49 ∷ 48 ∷ 50 ∷ 10 ∷ 53 ∷ 50 ∷ 48 ∷ 48 ∷ 48 ∷ 49 ∷ 10 ∷ 53 ∷ 50 ∷ 48 ∷ 50 ∷ 48 ∷ 51 ∷ 10 ∷ 53 ∷ 70 ∷ 48 ∷ 48 ∷ 48 ∷ 50 ∷ 10 ∷ []))
+
+-- LINE ENDS (document 02, L1)
+abbrev pub header : List ℕ
+header = 48 ∷ 49 ∷ 48 ∷ 49 ∷ 48 ∷ 48 ∷ []
+
+abbrev pub ending : List ℕ
+ending = 48 ∷ 70 ∷ 48 ∷ 48 ∷ 48 ∷ 48 ∷ []
+
+abbrev pub throughout : (file : List ℕ) → List ℕ
+throughout f = withReturns (λ i. true) f
+
+-- G1 with carriage returns, to which no second ones are put; S5 with one, before the header's line feed at 4; both files of a check; then a
+-- carriage return inside a line, as the only end, twice before a line feed, at the file's end and after the line feed, an empty line with either
+-- end, and line 31 ended by a carriage return alone
+abbrev pub KnownEnds : Type 0
+KnownEnds =
+    (throughout g1File ≡ header ++ (13 ∷ 10 ∷ []) ++ ending ++ (13 ∷ 10 ∷ [])) × (throughout (throughout g1File) ≡ throughout g1File) ×
+    (graphFault (throughout g1File) ≡ 0) × (graphIn (throughout g1File) ≡ graphIn g1File) ×
+    (stockFault (withReturns (eqb 4) s5File) ≡ 0) × (stockIn (withReturns (eqb 4) s5File) ≡ stockIn s5File) ×
+    (length (withReturns (eqb 4) s5File) ≡ suc (length s5File)) ×
+    (checkPost (throughout g1File) (throughout (barrierText (canonical (graphIn g1File)))) ≡ Yes) ×
+    (checkPost (throughout g5File) (throughout (pathText (0 ∷ 2 ∷ 5 ∷ []))) ≡ Yes) ×
+    (graphFault ((48 ∷ 49 ∷ 13 ∷ 48 ∷ 49 ∷ 48 ∷ 48 ∷ 10 ∷ []) ++ ending ++ (10 ∷ [])) ≡ 3) ×
+    (graphFault (header ++ (13 ∷ []) ++ ending ++ (13 ∷ [])) ≡ 3) ×
+    (graphFault (header ++ (13 ∷ 13 ∷ 10 ∷ []) ++ ending ++ (10 ∷ [])) ≡ 3) × (graphFault (g1File ++ (13 ∷ [])) ≡ 3) ×
+    (graphFault (header ++ (10 ∷ 13 ∷ []) ++ ending ++ (10 ∷ [])) ≡ 3) × (graphFault (g1File ++ (10 ∷ [])) ≡ 3) ×
+    (graphFault (g1File ++ (13 ∷ 10 ∷ [])) ≡ 3) × (stockFault (13 ∷ 10 ∷ []) ≡ 3) ×
+    (checkPost g1File ((51 ∷ 49 ∷ 13 ∷ []) ++ drop 3 (barrierText (canonical (graphIn g1File)))) ≡ Refused 43)

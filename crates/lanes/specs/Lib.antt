@@ -6,6 +6,7 @@
 --   StockCalls         what the stock calls answer by value, each in one record
 --   Promise            what is promised of every file: demands 2 and 3, and the marked set
 --   BytePromise        five of them as document 03 states them
+--   EitherEnd          what is promised where lines end either way
 --   Known              known graphs and stocks as files, byte for byte
 pub mod Entry
 pub mod Verdicts
@@ -14,4 +15,5 @@ pub mod GraphCalls
 pub mod StockCalls
 pub mod Promise
 pub mod BytePromise
+pub mod EitherEnd
 pub mod Known
