@@ -6,20 +6,32 @@
 //!   damaged_random_answers     answers to random graphs, damaged at one place
 //!   truncated_files            every beginning of every known file and answer
 //!   random_bytes               bytes, digits and frames in any order
-//!   random_frames              frames in the table's order with small numbers, rightly counted
+//!   random_frames              frames in the table's order with small numbers, rightly counted, with all line ends
 
 use crate::faults::graph_for_certificates;
 use crate::frames::{file, Form, BARRIER, GRAPH, PATH, STOCK};
 use crate::generate::small_graph;
 use crate::judge::{Judge, Trial};
 use crate::known::{graph_files, graphs, stock_files};
+use crate::line_ends::{all_ways, mixed};
 use crate::random::Random;
 use crate::reference::answer;
 
-/// All digits, the line feed, and bytes beside the digits in the table of characters and elsewhere.
-pub const BYTES: &[u8] = b"0123456789ABCDEF\n/:@Gagf \r\0\x7F\x80\xFF";
-/// How many of them are digits; the line feed comes after those.
+/// All digits, line feed and carriage return, and bytes beside the digits in the table of characters and elsewhere.
+pub const BYTES: &[u8] = b"0123456789ABCDEF\n\r/:@Gagf \0\x7F\x80\xFF";
+/// How many of them are digits; line feed and carriage return come after those.
 pub const DIGITS: usize = 16;
+
+/// A digit, a line feed or a carriage return.
+fn digit_or_end(random: &mut Random) -> u8 {
+    *random.choose(&BYTES[..DIGITS + 2])
+}
+
+/// A line end, most often a right one.
+fn some_end(random: &mut Random) -> &'static [u8] {
+    let ends: &[&[u8]] = if random.chance(98) { &[b"\n", b"\r\n"] } else { &[b"\r", b"\r\r\n", b"\n\r"] };
+    ends[random.below(ends.len())]
+}
 
 fn damages(file: &[u8]) -> Vec<Vec<u8>> {
     let mut all = Vec::new();
@@ -48,9 +60,9 @@ pub fn damaged_files(judge: &mut Judge) -> Trial {
 pub fn damaged_random_answers(judge: &mut Judge, files: usize) -> Trial {
     (0..files).try_for_each(|_| {
         let graph = small_graph(&mut judge.random);
-        let mut certificate = answer(&graph).file();
+        let mut certificate = mixed(&mut judge.random, &answer(&graph).file());
         let place = judge.random.below(certificate.len());
-        certificate[place] = *judge.random.choose(&BYTES[..=DIGITS]);
+        certificate[place] = digit_or_end(&mut judge.random);
         judge.certificate(&graph.file(), &certificate)
     })
 }
@@ -72,7 +84,7 @@ pub fn truncated_files(judge: &mut Judge) -> Trial {
 
 pub fn random_bytes(judge: &mut Judge, files: usize) -> Trial {
     let graph = graph_for_certificates().file();
-    let frames: [&[u8]; 8] = [b"010201\n", b"1104\n", b"21\n", b"31\n", b"020002\n", b"120001\n", b"0F0000\n", b"1F0001\n"];
+    let frames: [&[u8]; 8] = [b"010201", b"1104", b"21", b"31", b"020002", b"120001", b"0F0000", b"1F0001"];
     (0..files).try_for_each(|number| {
         let random = &mut judge.random;
         let length = if random.chance(90) { random.below(60) } else { random.below(3_000) };
@@ -80,8 +92,8 @@ pub fn random_bytes(judge: &mut Judge, files: usize) -> Trial {
         while bytes.len() < length {
             match number % 3 {
                 0 => bytes.push(random.byte()),
-                1 => bytes.push(*random.choose(&BYTES[..=DIGITS])),
-                _ => bytes.extend_from_slice(frames[random.below(frames.len())]),
+                1 => bytes.push(digit_or_end(random)),
+                _ => bytes.extend([*random.choose(&frames), some_end(random)].concat()),
             }
         }
         judge.all_calls(&graph, &bytes)
@@ -110,6 +122,6 @@ pub fn random_frames(judge: &mut Judge, files: usize) -> Trial {
     (0..files).try_for_each(|number| {
         let form = [&GRAPH, &STOCK, &STOCK, &PATH, &BARRIER][number % 5];
         let bytes = some_frames(&mut judge.random, form, beside.nodes());
-        judge.all_calls(&graph, &bytes)
+        all_ways(&mut judge.random, &bytes).iter().try_for_each(|file| judge.all_calls(&graph, file))
     })
 }

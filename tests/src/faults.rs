@@ -5,7 +5,7 @@
 //!   graph_for_certificates    the graph beside which faulty certificates are made
 //! The faults in numbers are made first, then those in lines, then those in bytes; what comes out is asked, and made again until it fits.
 
-use crate::frames::{first_no, pair_lines, Form, Pair, Text, BARRIER, GRAPH, GREATEST_FILE, PATH, STOCK};
+use crate::frames::{first_no, pair_lines, Form, Pair, Text, BARRIER, CR, GRAPH, GREATEST_FILE, LF, PATH, STOCK};
 use crate::generate::{all_fits, random_graph};
 use crate::graph_trial::{self, mate, Graph, CERTIFICATE_QUESTIONS, GRAPH_QUESTIONS};
 use crate::random::Random;
@@ -271,15 +271,17 @@ impl Draft<'_> {
     }
 }
 
-/// Question 3: a byte that is no digit, a line of an odd number of digits or of none, or a last line without its line feed.
+/// Question 3: a byte that is no digit, a line of an odd number of digits or of none, or a last line without its end.
 fn break_bytes(random: &mut Random, bytes: &mut Vec<u8>) {
     let place = random.below(bytes.len());
-    match random.below(6) {
+    match random.below(8) {
         0 => drop(bytes.pop()),
         1 => bytes[place] = *random.choose(b"agG \r:/@\0\xFF"),
         2 => drop(bytes.remove(place)),
         3 => bytes.insert(place, b'0'),
-        4 => bytes.push(b'\n'),
-        _ => bytes.insert(place, b'\n'),
+        4 => bytes.push(LF),
+        5 => bytes.push(CR),
+        6 => bytes.insert(place, CR),
+        _ => bytes.insert(place, LF),
     }
 }

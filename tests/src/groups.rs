@@ -7,9 +7,10 @@
 //!   run_programs    the same for the programs
 
 use crate::engine::Engine;
-use crate::judge::{Judge, Seen, Trial};
+use crate::judge::{Judge, Trial};
 use crate::programs::Programs;
 use crate::random::Random;
+use crate::seen::Seen;
 use crate::{cases, damage, exhaustive, large, program_trials, self_checks, sizes, trials};
 use std::panic::{catch_unwind, AssertUnwindSafe};
 

@@ -2,21 +2,23 @@
 //!   Judge                 an engine, a source of numbers, and counts of what was tried
 //!   graph, stock          a file handed to the calls for its kind, and judged by what the documents say of it
 //!   graph_answer          the same, and the answer, empty for a refusal
+//!   graph_all_ways, stock_all_ways    the same with all line ends; what the file gets remains, unless it becomes too long
 //!   made_graph, made_stock    the same of a graph or stock that was made to be accepted
 //!   short_buffers         the same with a buffer that is too small
 //!   all_calls             any bytes handed to every call
 //!   check, certificate    two files handed to the check; the second counted as a file tried
+//!   certificate_all_ways  the same with all line ends in both
 //!   in_a_row              calls on one tally
-//!   Seen                  counts of calls by what they came to
 //!   Trial                 done, or what went wrong and on which file
 
 use crate::engine::{Engine, Tally, Told, Verdict};
+use crate::frames::GREATEST_FILE;
 use crate::graph_trial::{self, Graph};
+use crate::line_ends::all_ways;
 use crate::random::Random;
+use crate::seen::{Came, Seen};
 use crate::stock_trial::{self, Stock};
-use crate::truth::{graph_owed, graph_truth, opening, plan_owed, sheet_owed, stock_truth, Count, Owed};
-use std::collections::BTreeMap;
-use std::fmt;
+use crate::truth::{graph_owed, graph_truth, opening, plan_owed, sheet_owed, stock_truth, Count, GraphTruth, Owed, StockTruth};
 
 pub type Trial = Result<(), String>;
 
@@ -25,50 +27,6 @@ pub enum Call {
     Graph,
     Plan,
     Sheet,
-}
-
-/// Calls by what they came to.
-#[derive(Default)]
-pub struct Seen {
-    /// what the trial was compared with itself on, without a call
-    pub compared: usize,
-    pub files: usize,
-    pub calls: usize,
-    pub paths: usize,
-    pub barriers: usize,
-    pub stocks: usize,
-    pub yes: usize,
-    pub no: usize,
-    pub refusals: BTreeMap<u8, usize>,
-}
-
-impl Seen {
-    pub fn add(&mut self, other: &Seen) {
-        let counts = |seen: &Seen| [seen.files, seen.calls, seen.paths, seen.barriers, seen.stocks, seen.yes, seen.no];
-        let sums = [
-            &mut self.files,
-            &mut self.calls,
-            &mut self.paths,
-            &mut self.barriers,
-            &mut self.stocks,
-            &mut self.yes,
-            &mut self.no,
-        ];
-        sums.into_iter().zip(counts(other)).for_each(|(sum, count)| *sum += count);
-        other.refusals.iter().for_each(|(number, count)| *self.refusals.entry(*number).or_default() += count);
-    }
-}
-
-impl fmt::Display for Seen {
-    fn fmt(&self, out: &mut fmt::Formatter) -> fmt::Result {
-        let Seen { files, calls, paths, barriers, stocks, yes, no, .. } = self;
-        writeln!(
-            out,
-            "{files} files, {calls} calls: {paths} paths, {barriers} barriers, {stocks} stock answers, {yes} yes, {no} no"
-        )?;
-        write!(out, "refusals:")?;
-        self.refusals.iter().try_for_each(|(number, count)| write!(out, " {number}: {count}"))
-    }
 }
 
 pub struct Judge<'a> {
@@ -101,21 +59,64 @@ impl<'a> Judge<'a> {
         self.as_stock(file)
     }
 
+    pub fn graph_all_ways(&mut self, file: &[u8]) -> Trial {
+        let (read, truth) = (graph_trial::read(file), graph_truth(file));
+        for other in all_ways(&mut self.random, file) {
+            let long = is_too_long(&other);
+            read_alike(&read, graph_trial::read(&other), &other)?;
+            self.seen.files += 1;
+            self.graph_owing(&other, if long { &GraphTruth::Refused(2) } else { &truth })?;
+        }
+        Ok(())
+    }
+
+    pub fn stock_all_ways(&mut self, file: &[u8]) -> Trial {
+        let (read, truth) = (stock_trial::read(file), stock_truth(file));
+        for other in all_ways(&mut self.random, file) {
+            let long = is_too_long(&other);
+            read_alike(&read, stock_trial::read(&other), &other)?;
+            self.seen.files += 1;
+            self.stock_owing(&other, if long { &StockTruth::Refused(2) } else { &truth })?;
+        }
+        Ok(())
+    }
+
     /// A graph that was made to be accepted: what is read from its file is the graph itself.
     pub fn made_graph(&mut self, graph: &Graph) -> Trial {
         read_back(graph_trial::read(&graph.file()), graph, &graph.file())?;
-        self.graph(&graph.file())
+        self.graph_all_ways(&graph.file())
     }
 
     /// A stock likewise.
     pub fn made_stock(&mut self, stock: &Stock) -> Trial {
         read_back(stock_trial::read(&stock.file()), stock, &stock.file())?;
-        self.stock(&stock.file())
+        self.stock_all_ways(&stock.file())
     }
 
     pub fn certificate(&mut self, graph: &[u8], certificate: &[u8]) -> Trial {
         self.seen.files += 1;
         self.check(graph, certificate)
+    }
+
+    /// The verdict remains, unless a file that is read becomes too long.
+    pub fn certificate_all_ways(&mut self, graph: &[u8], certificate: &[u8]) -> Trial {
+        let verdict = graph_trial::check(graph, certificate);
+        let graph_refused = matches!(verdict, Verdict::Refused(number) if number < 40);
+        let certificates = all_ways(&mut self.random, certificate);
+        for graph in all_ways(&mut self.random, graph) {
+            for certificate in &certificates {
+                let owed = match (is_too_long(&graph), is_too_long(certificate)) {
+                    (true, _) => Verdict::Refused(2),
+                    (false, true) if !graph_refused => Verdict::Refused(42),
+                    _ => verdict,
+                };
+                if graph_trial::check(&graph, certificate) != owed {
+                    return Err(format!("{UNLIKE}\n{}and\n{}", shown(&graph), shown(certificate)));
+                }
+                self.certificate(&graph, certificate)?;
+            }
+        }
+        Ok(())
     }
 
     /// As a graph, as a stock, and as a certificate of a given graph.
@@ -127,8 +128,11 @@ impl<'a> Judge<'a> {
     }
 
     fn as_graph(&mut self, file: &[u8]) -> Result<Vec<u8>, String> {
-        let truth = graph_truth(file);
-        let owed = graph_owed(&truth);
+        self.graph_owing(file, &graph_truth(file))
+    }
+
+    fn graph_owing(&mut self, file: &[u8], truth: &GraphTruth) -> Result<Vec<u8>, String> {
+        let owed = graph_owed(truth);
         let (room, short) = self.rooms();
         let answer = self.lend(Call::Graph, file, room, &owed)?;
         if let Some(room) = short {
@@ -141,13 +145,16 @@ impl<'a> Judge<'a> {
     }
 
     fn as_stock(&mut self, file: &[u8]) -> Trial {
-        let truth = stock_truth(file);
+        self.stock_owing(file, &stock_truth(file))
+    }
+
+    fn stock_owing(&mut self, file: &[u8], truth: &StockTruth) -> Trial {
         let (room, short) = self.rooms();
-        self.lend(Call::Plan, file, room, &plan_owed(&truth))?;
-        self.lend(Call::Sheet, file, room, &sheet_owed(&truth))?;
+        self.lend(Call::Plan, file, room, &plan_owed(truth))?;
+        self.lend(Call::Sheet, file, room, &sheet_owed(truth))?;
         if let Some(room) = short {
-            self.lend(Call::Plan, file, room, &plan_owed(&truth))?;
-            self.lend(Call::Sheet, file, room, &sheet_owed(&truth))?;
+            self.lend(Call::Plan, file, room, &plan_owed(truth))?;
+            self.lend(Call::Sheet, file, room, &sheet_owed(truth))?;
         }
         Ok(())
     }
@@ -163,12 +170,12 @@ impl<'a> Judge<'a> {
     pub fn check(&mut self, graph: &[u8], certificate: &[u8]) -> Trial {
         let owed = graph_trial::check(graph, certificate);
         let said = self.engine.check(graph, certificate);
-        self.seen.calls += 1;
-        match owed {
-            Verdict::Yes => self.seen.yes += 1,
-            Verdict::No => self.seen.no += 1,
-            Verdict::Refused(number) => *self.seen.refusals.entry(number).or_default() += 1,
-        }
+        let came = match owed {
+            Verdict::Yes => Came::Yes,
+            Verdict::No => Came::No,
+            Verdict::Refused(number) => Came::Refusal(number),
+        };
+        self.seen.call(&[graph, certificate], came);
         if said == owed {
             return Ok(());
         }
@@ -200,7 +207,13 @@ impl<'a> Judge<'a> {
         let mut after = before.clone();
         let mut tally = tally_before;
         let told = self.call(call, file, &mut after[start..start + room], &mut tally);
-        self.count(count, number);
+        let came = match count {
+            Count::Paths => Came::Path,
+            Count::Barriers => Came::Barrier,
+            Count::Stocks => Came::Stock,
+            Count::Refusals => Came::Refusal(number),
+        };
+        self.seen.call(&[file], came);
         let fault = |what: String| Err(format!("{call:?} with a buffer of {room}: {what}\n{}", shown(file)));
         if told.number != number {
             return fault(format!("refusal {} where {number} is owed (0: an answer)", told.number));
@@ -229,16 +242,6 @@ impl<'a> Judge<'a> {
         }
     }
 
-    fn count(&mut self, count: Count, number: u8) {
-        self.seen.calls += 1;
-        match count {
-            Count::Paths => self.seen.paths += 1,
-            Count::Barriers => self.seen.barriers += 1,
-            Count::Stocks => self.seen.stocks += 1,
-            Count::Refusals => *self.seen.refusals.entry(number).or_default() += 1,
-        }
-    }
-
     /// A buffer that is large enough, and at times one that is not.
     fn rooms(&mut self) -> (usize, Option<usize>) {
         let room = if self.random.chance(80) { LEAST_ROOM } else { LEAST_ROOM + self.random.below(3_000) };
@@ -256,6 +259,22 @@ impl<'a> Judge<'a> {
         };
         Tally { paths: count(), barriers: count(), stocks: count(), refusals: count() }
     }
+}
+
+fn is_too_long(file: &[u8]) -> bool {
+    file.len() > GREATEST_FILE
+}
+
+/// What is said where other line ends change what the trial says.
+const UNLIKE: &str = "the trial says another thing of a file with other line ends";
+
+/// A file with other line ends reads as the file itself, unless it became too long.
+fn read_alike<T: PartialEq>(read: &Result<T, u8>, other: Result<T, u8>, file: &[u8]) -> Trial {
+    let alike = if is_too_long(file) { matches!(other, Err(2)) } else { other == *read };
+    if alike {
+        return Ok(());
+    }
+    Err(format!("{UNLIKE}\n{}", shown(file)))
 }
 
 fn read_back<T: PartialEq>(read: Result<T, u8>, made: &T, file: &[u8]) -> Trial {
@@ -279,10 +298,10 @@ pub fn raised(tally: Tally, count: Count) -> Tally {
     raised
 }
 
-/// The beginning of a file, for messages.
+/// The beginning of a file, for messages; each CR is told.
 pub fn shown(file: &[u8]) -> String {
     const MOST: usize = 1_200;
-    let start = String::from_utf8_lossy(&file[..file.len().min(MOST)]).into_owned();
+    let start = String::from_utf8_lossy(&file[..file.len().min(MOST)]).replace('\r', "<CR>");
     let rest = if file.len() > MOST { format!("\n.. {} bytes in all\n", file.len()) } else { String::new() };
     format!("{start}{rest}")
 }

@@ -1,6 +1,7 @@
 //! The engine tried from outside. The trial is written from documents 01 and 02 alone and shares nothing with the engine.
 //!   random          a seeded source of numbers
 //!   frames          files of frames: written and read
+//!   line_ends       files with other line ends, right or damaged
 //!   graph_trial     graphs, regular paths, barriers and certificates, by trial of everything
 //!   stock_trial     stocks, pairings, marks and plans, by trial of everything
 //!   blossom         maximum matchings of any size
@@ -10,6 +11,7 @@
 //!   reference       an engine made of the trial's parts
 //!   wrong, slips    engines with one part wrong
 //!   judge           a call judged whole: result, buffer, tally
+//!   seen            what was tried, counted
 //!   generate        random graphs and stocks
 //!   faults          files that fail chosen questions
 //!   known           document 01's known graphs and stocks
@@ -44,12 +46,14 @@ pub mod groups;
 pub mod judge;
 pub mod known;
 pub mod large;
+pub mod line_ends;
 pub mod options;
 pub mod prints;
 pub mod program_trials;
 pub mod programs;
 pub mod random;
 pub mod reference;
+pub mod seen;
 pub mod self_checks;
 pub mod shapes;
 pub mod sizes;

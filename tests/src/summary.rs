@@ -5,10 +5,11 @@
 
 use crate::engine::Engine;
 use crate::groups::{of_engine, of_programs, of_trial, run, run_programs, EngineGroup, PANIC};
-use crate::judge::{Seen, Trial};
+use crate::judge::Trial;
 use crate::options::Options;
 use crate::programs::{Place, Programs, NOT_RUN};
 use crate::reference::Parts;
+use crate::seen::Seen;
 use crate::wrong;
 use crate::wrong_programs::{self, WrongProgram};
 use std::process::ExitCode;
@@ -56,18 +57,13 @@ impl Summary<'_> {
         }
     }
 
-    /// Every kind of answer and every refusal was met.
+    /// Every kind of answer and every refusal was met, in files with CR LF too.
     fn try_coverage(&mut self) {
-        let seen = &self.seen;
-        let answers = [seen.paths, seen.barriers, seen.stocks, seen.yes, seen.no];
-        let numbers = (1..=14).chain([42, 43, 44, 46, 47, 48, 49]);
-        let missing: Vec<u8> = numbers.filter(|number| !seen.refusals.contains_key(number)).collect();
-        let outcome = if missing.is_empty() && !answers.contains(&0) {
-            Ok(String::new())
-        } else {
-            Err(format!("refusals never met: {missing:?}; paths, barriers, stock answers, yes, no: {answers:?}"))
-        };
-        self.tell("every kind of answer and every refusal was met", outcome);
+        let kinds = ["every kind of answer and every refusal was met", "the same on files with CR LF"];
+        for (name, missing) in kinds.into_iter().zip(self.seen.never_met()) {
+            let outcome = if missing.is_empty() { Ok(String::new()) } else { Err(format!("never met: {missing:?}")) };
+            self.tell(name, outcome);
+        }
     }
 
     fn try_wrong_engines(&mut self) {

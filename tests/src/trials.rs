@@ -3,7 +3,7 @@
 //!   certificates                       right, wrong and random certificates
 //!   single_faults, pairs_of_faults     every question as the first failing one, alone and with each later one
 //!   faults_in_both_files               the check: graph first, then certificate
-//! Where there is a choice, the number of files to try is given.
+//! Where there is a choice, the number of files to try is given. Each file is tried with all line ends.
 
 use crate::faults::{failing, graph_for_certificates, questions, Kind, KINDS};
 use crate::frames::{barrier_file, path_file};
@@ -104,7 +104,7 @@ pub fn certificates(judge: &mut Judge, files: usize) -> Trial {
             2 => answer(&graph).file(),
             _ => barrier_file(&random_classes(random, &graph)),
         };
-        judge.certificate(&graph.file(), &certificate)
+        judge.certificate_all_ways(&graph.file(), &certificate)
     })
 }
 
@@ -115,11 +115,11 @@ fn judge_faulty(judge: &mut Judge, kind: Kind, faults: &[u8]) -> Trial {
     judge.short_buffers(&file)?;
     match kind {
         Kind::Graph => {
-            judge.graph(&file)?;
-            judge.check(&file, b"")
+            judge.graph_all_ways(&file)?;
+            judge.certificate_all_ways(&file, b"")
         }
-        Kind::Stock => judge.stock(&file),
-        Kind::Path | Kind::Barrier => judge.certificate(&graph_for_certificates().file(), &file),
+        Kind::Stock => judge.stock_all_ways(&file),
+        Kind::Path | Kind::Barrier => judge.certificate_all_ways(&graph_for_certificates().file(), &file),
     }
 }
 
@@ -153,7 +153,7 @@ pub fn faults_in_both_files(judge: &mut Judge) -> Trial {
             let graph = failing(&mut judge.random, Kind::Graph, &[*first])?;
             let kind = if judge.random.chance(50) { Kind::Path } else { Kind::Barrier };
             let certificate = failing(&mut judge.random, kind, &[*second])?;
-            judge.certificate(&graph, &certificate)?;
+            judge.certificate_all_ways(&graph, &certificate)?;
         }
     }
     Ok(())
