@@ -5,6 +5,9 @@
 //!   edges                             sizes at which a question changes its answer, and the buffer's
 //!   traps                             document 01's traps
 //!   one_of                            an answer is among those that the document allows
+//!   graph_answer ..                   what one call answers, judged
+//!   by_trial, graph_refusal, stock_refusal, verdict    the trial and the engine held to what is plain beforehand; 0 for an answer
+//!   graph_of_arcs                     a graph of a number of arcs
 //!   points_left_to_the_reader         what is decided where document 01 can be read in two ways
 
 use crate::engine::{Tally, Verdict};
@@ -19,7 +22,7 @@ use crate::truth::{graph_owed, graph_truth, plan_owed, sheet_owed, stock_truth, 
 use std::fs;
 
 /// What the trial itself says, against the documents.
-fn by_trial<T: PartialEq + std::fmt::Debug>(file: &[u8], found: T, right: T) -> Trial {
+pub fn by_trial<T: PartialEq + std::fmt::Debug>(file: &[u8], found: T, right: T) -> Trial {
     if found == right {
         Ok(())
     } else {
@@ -35,15 +38,15 @@ pub fn one_of(name: &str, answer: &[u8], right: &[Vec<u8>]) -> Trial {
     }
 }
 
-fn graph_answer(judge: &mut Judge, file: &[u8]) -> Result<Vec<u8>, String> {
+pub fn graph_answer(judge: &mut Judge, file: &[u8]) -> Result<Vec<u8>, String> {
     judge.lend(Call::Graph, file, LEAST_ROOM, &graph_owed(&graph_truth(file)))
 }
 
-fn plan_answer(judge: &mut Judge, file: &[u8]) -> Result<Vec<u8>, String> {
+pub fn plan_answer(judge: &mut Judge, file: &[u8]) -> Result<Vec<u8>, String> {
     judge.lend(Call::Plan, file, LEAST_ROOM, &plan_owed(&stock_truth(file)))
 }
 
-fn sheet_answer(judge: &mut Judge, file: &[u8]) -> Result<Vec<u8>, String> {
+pub fn sheet_answer(judge: &mut Judge, file: &[u8]) -> Result<Vec<u8>, String> {
     judge.lend(Call::Sheet, file, LEAST_ROOM, &sheet_owed(&stock_truth(file)))
 }
 
@@ -73,23 +76,23 @@ pub fn stock_examples(judge: &mut Judge) -> Trial {
 }
 
 /// The trial and the engine both say so.
-fn verdict(judge: &mut Judge, graph: &[u8], certificate: &[u8], right: Verdict) -> Trial {
+pub fn verdict(judge: &mut Judge, graph: &[u8], certificate: &[u8], right: Verdict) -> Trial {
     by_trial(certificate, graph_trial::check(graph, certificate), right)?;
     judge.certificate(graph, certificate)
 }
 
-fn graph_refusal(judge: &mut Judge, file: &[u8], right: u8) -> Trial {
+pub fn graph_refusal(judge: &mut Judge, file: &[u8], right: u8) -> Trial {
     by_trial(file, graph_trial::read(file).err().unwrap_or(0), right)?;
     judge.graph(file)
 }
 
-fn stock_refusal(judge: &mut Judge, file: &[u8], right: u8) -> Trial {
+pub fn stock_refusal(judge: &mut Judge, file: &[u8], right: u8) -> Trial {
     by_trial(file, stock_trial::read(file).err().unwrap_or(0), right)?;
     judge.stock(file)
 }
 
 /// A graph of some mate pairs with that many parallel arcs 0 to 2 and back.
-fn graph_of_arcs(pairs: usize, number: usize) -> Vec<u8> {
+pub fn graph_of_arcs(pairs: usize, number: usize) -> Vec<u8> {
     let arcs: Vec<Pair> = G3.iter().copied().cycle().take(number).collect();
     graph_file(pairs, 0, &arcs)
 }

@@ -3,7 +3,10 @@
 //!   all_stocks      every stock of up to five cameras, with every pairing lit
 //!   all_classes     every table of classes up to 04 for random graphs of one or two mate pairs; of three those that agree with mates
 //!   all_runs        every run of up to three arcs, for random small graphs
+//!   all_texts       every text of up to six digits, frame kinds and bytes of line ends
+//!   texts           every text of up to a number of pieces
 
+use crate::faults::graph_for_certificates;
 use crate::frames::{barrier_file, path_file, Pair};
 use crate::generate::{all_fits, random_graph};
 use crate::graph_trial::{self, is_barrier, mate, Graph};
@@ -103,4 +106,21 @@ fn try_runs(judge: &mut Judge, graph: &Graph, run: &mut Vec<usize>, more: usize)
         run.pop();
         outcome
     })
+}
+
+pub fn all_texts(judge: &mut Judge) -> Trial {
+    let graph = graph_for_certificates().file();
+    texts(&[b"0", b"31", b"\r", b"\n"], 6).iter().try_for_each(|text| judge.all_calls(&graph, text))
+}
+
+pub fn texts(pieces: &[&[u8]], most: usize) -> Vec<Vec<u8>> {
+    let mut all = vec![Vec::new()];
+    let mut shorter = 0;
+    for _ in 0..most {
+        let longer: Vec<Vec<u8>> =
+            all[shorter..].iter().flat_map(|text| pieces.iter().map(|piece| [text, *piece].concat())).collect();
+        shorter = all.len();
+        all.extend(longer);
+    }
+    all
 }

@@ -11,7 +11,7 @@ use crate::judge::{Judge, Trial};
 use crate::programs::Programs;
 use crate::random::Random;
 use crate::seen::Seen;
-use crate::{cases, damage, exhaustive, large, program_trials, self_checks, sizes, trials};
+use crate::{cases, damage, exhaustive, large, line_end_trials, program_trials, self_checks, sizes, trials};
 use std::panic::{catch_unwind, AssertUnwindSafe};
 
 pub struct Group<T> {
@@ -55,6 +55,7 @@ const fn share(name: &'static str, of_a_thousand: usize, tried: fn(&mut Judge, u
 
 pub fn of_trial() -> Vec<EngineGroup> {
     vec![
+        fixed("lines cut agree with bytes read one by one", self_checks::lines_agree),
         share("all pairings agree with the blossom algorithm", 200, self_checks::pairings_agree),
         share("the bound of Tutte and Berge is met", 10, self_checks::bounds_are_met),
         share("all regular paths agree with matchings of arcs", 100, self_checks::paths_agree),
@@ -70,6 +71,9 @@ pub fn of_engine() -> Vec<EngineGroup> {
         fixed("the folder examples/", cases::examples_folder),
         fixed("tallies", cases::tallies),
         fixed("traps", cases::traps),
+        fixed("every end of two lines", line_end_trials::ends_of_two_lines),
+        drawn("first lines of certificates", line_end_trials::certificate_headers),
+        drawn("known files with every choice of line ends", line_end_trials::known_files),
         fixed("truncated files", damage::truncated_files),
         share("single faults", 30, trials::single_faults),
         share("pairs of faults", 50, trials::pairs_of_faults),
@@ -80,6 +84,8 @@ pub fn of_engine() -> Vec<EngineGroup> {
         fixed("certificates damaged at every byte", damage::damaged_certificates),
         fixed("files damaged at every byte", damage::damaged_files),
         share("answers damaged at one byte", 60, damage::damaged_random_answers),
+        drawn("line ends damaged at every byte", line_end_trials::damaged),
+        fixed("every short text", exhaustive::all_texts),
         share("every table of classes", 400, exhaustive::all_classes),
         share("every run of arcs", 60, exhaustive::all_runs),
         share("random bytes", 60, damage::random_bytes),
@@ -93,6 +99,8 @@ pub fn of_engine() -> Vec<EngineGroup> {
         fixed("every stock of up to five cameras", exhaustive::all_stocks),
         drawn("paths and barriers of every size", sizes::graphs),
         drawn("sheets and plans of every size", sizes::stocks),
+        drawn("the largest certificates with CR LF", line_end_trials::largest_certificates),
+        drawn("60,000 bytes with CR LF", line_end_trials::lengths),
         drawn("127 parts", large::many_parts),
         drawn("buds inside buds", large::nested_buds),
         drawn("128 mate pairs and 8,192 arcs", large::dense_graphs),

@@ -22,6 +22,7 @@
 //!   shapes          graphs and stocks made to measure
 //!   sizes           answers of every size
 //!   large           the largest files
+//!   line_end_trials    line ends: every choice, wrong ones, damaged ones, and lengths
 //!   prints          what the programs print
 //!   programs        the programs, run and judged
 //!   stand_in        this binary in a program's place
@@ -46,6 +47,7 @@ pub mod groups;
 pub mod judge;
 pub mod known;
 pub mod large;
+pub mod line_end_trials;
 pub mod line_ends;
 pub mod options;
 pub mod prints;

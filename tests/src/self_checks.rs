@@ -1,4 +1,5 @@
 //! The trial against itself; no engine is called.
+//!   lines_agree              lines cut at line feeds and bytes read one by one, on every short text
 //!   pairings_agree           all pairings and the blossom algorithm, on small stocks
 //!   bounds_are_met           on larger stocks: a pairing of the greatest number, and the bound of Tutte and Berge that no pairing exceeds
 //!   paths_agree              all regular paths and matchings of arcs, on small graphs
@@ -7,7 +8,8 @@
 
 use crate::arc_matching;
 use crate::blossom;
-use crate::frames::Pair;
+use crate::exhaustive::texts;
+use crate::frames::{Pair, Text, CR, GRAPH, LF};
 use crate::generate::{
     doubled_table, ear_fits, middling_graph, middling_stock, shuffled_graph, small_graph, small_stock, stock_of,
 };
@@ -22,6 +24,27 @@ fn compare(judge: &mut Judge, agree: bool, what: &str, file: &[u8]) -> Trial {
     } else {
         Err(format!("{what}\n{}", shown(file)))
     }
+}
+
+/// Question 3 by the digits of the line so far, and whether a CR came after them.
+fn is_whole(text: &[u8]) -> bool {
+    let (mut digits, mut after_return) = (0, false);
+    for byte in text {
+        match (*byte, after_return) {
+            (LF, _) if digits > 0 && digits % 2 == 0 => (digits, after_return) = (0, false),
+            (CR, false) => after_return = true,
+            (b'0'..=b'9' | b'A'..=b'F', false) => digits += 1,
+            _ => return false,
+        }
+    }
+    digits == 0 && !after_return
+}
+
+pub fn lines_agree(judge: &mut Judge) -> Trial {
+    texts(&[b"0", b"G", b"\r", b"\n"], 8).iter().try_for_each(|text| {
+        let agree = Text::of(text).answers(&GRAPH, 3) == is_whole(text);
+        compare(judge, agree, "lines cut and bytes read one by one differ", text)
+    })
 }
 
 pub fn pairings_agree(judge: &mut Judge, files: usize) -> Trial {
