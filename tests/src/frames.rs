@@ -106,7 +106,7 @@ pub fn first_no(order: &[u8], ask: impl Fn(u8) -> bool) -> u8 {
     order.iter().copied().find(|question| !ask(*question)).unwrap_or(0)
 }
 
-fn is_digit(byte: u8) -> bool {
+pub fn is_digit(byte: u8) -> bool {
     byte.is_ascii_digit() || (b'A'..=b'F').contains(&byte)
 }
 

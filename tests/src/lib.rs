@@ -9,7 +9,7 @@
 //!   truth           what the documents say of a file
 //!   engine          the calls, and the proved engine where it is linked
 //!   reference       an engine made of the trial's parts
-//!   wrong, slips    engines with one part wrong
+//!   wrong, slips, wrong_line_ends    engines with one part wrong
 //!   judge           a call judged whole: result, buffer, tally
 //!   seen            what was tried, counted
 //!   generate        random graphs and stocks
@@ -66,4 +66,5 @@ pub mod summary;
 pub mod trials;
 pub mod truth;
 pub mod wrong;
+pub mod wrong_line_ends;
 pub mod wrong_programs;

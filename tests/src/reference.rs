@@ -41,6 +41,8 @@ pub struct Parts {
     pub holds: fn(&Graph, &Certificate) -> bool,
     pub added_for_certificates: u8,
     pub raise: fn(u32) -> u32,
+    /// of a file and its answer, the answer with the line ends that it is written with
+    pub ends: fn(&[u8], Vec<u8>) -> Vec<u8>,
     pub write: fn(&[u8], &mut [u8]) -> Told,
     pub refuse: fn(u8, &mut [u8]) -> Told,
 }
@@ -59,6 +61,7 @@ impl Parts {
             holds: graph_trial::certificate_holds,
             added_for_certificates: 40,
             raise: |count| count.saturating_add(1),
+            ends: |_, answer| answer,
             write,
             refuse: |number, _| Told { number, size: 0 },
         }
@@ -84,7 +87,7 @@ impl Parts {
             Err(number) => self.refusal(number, out, tally),
             Ok(stock) => {
                 tally.stocks = (self.raise)(tally.stocks);
-                (self.write)(&text(&stock), out)
+                (self.write)(&(self.ends)(file, text(&stock)), out)
             }
         }
     }
@@ -123,7 +126,7 @@ impl Engine for Parts {
             GraphAnswer::Path(_) => tally.paths = (self.raise)(tally.paths),
             GraphAnswer::Barrier(_) => tally.barriers = (self.raise)(tally.barriers),
         }
-        (self.write)(&answer.file(), out)
+        (self.write)(&(self.ends)(file, answer.file()), out)
     }
 
     fn plan(&self, file: &[u8], out: &mut [u8], tally: &mut Tally) -> Told {

@@ -1,7 +1,7 @@
 //! Engines with one part wrong. The tests must fail on each of them.
 //!   engines     every wrong engine with what is wrong of it
 //!   Named       what is wrong, and the engine
-//! First those that document 01 shuts out, then its traps, then slips of other kinds (slips.rs).
+//! First those that document 01 shuts out, then its traps, then slips of other kinds (slips.rs), then those in line ends (wrong_line_ends.rs).
 
 use crate::blossom::{augment, neighbours, pairs, partners, Partners};
 use crate::frames::Pair;
@@ -9,6 +9,7 @@ use crate::graph_trial::{canonical, is_barrier, is_wanted, mate, Certificate, Gr
 use crate::reference::{self, GraphAnswer, Parts};
 use crate::slips;
 use crate::stock_trial::{self, Standing, Stock};
+use crate::wrong_line_ends;
 use std::collections::VecDeque;
 
 pub type Named = (String, Parts);
@@ -19,6 +20,7 @@ pub fn engines() -> Vec<Named> {
     all.extend(slips::of_calls());
     all.extend(slips::of_check());
     all.extend(slips::of_questions());
+    all.extend(wrong_line_ends::engines());
     all
 }
 
