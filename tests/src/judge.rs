@@ -110,10 +110,10 @@ impl<'a> Judge<'a> {
                     (false, true) if !graph_refused => Verdict::Refused(42),
                     _ => verdict,
                 };
-                if graph_trial::check(&graph, certificate) != owed {
+                self.seen.files += 1;
+                if self.checked(&graph, certificate)? != owed {
                     return Err(format!("{UNLIKE}\n{}and\n{}", shown(&graph), shown(certificate)));
                 }
-                self.certificate(&graph, certificate)?;
             }
         }
         Ok(())
@@ -168,6 +168,11 @@ impl<'a> Judge<'a> {
     }
 
     pub fn check(&mut self, graph: &[u8], certificate: &[u8]) -> Trial {
+        self.checked(graph, certificate).map(drop)
+    }
+
+    /// The verdict, by the trial and by the engine.
+    fn checked(&mut self, graph: &[u8], certificate: &[u8]) -> Result<Verdict, String> {
         let owed = graph_trial::check(graph, certificate);
         let said = self.engine.check(graph, certificate);
         let came = match owed {
@@ -177,7 +182,7 @@ impl<'a> Judge<'a> {
         };
         self.seen.call(&[graph, certificate], came);
         if said == owed {
-            return Ok(());
+            return Ok(owed);
         }
         let files = format!("graph:\n{}certificate:\n{}", shown(graph), shown(certificate));
         Err(format!("check says {said:?}, owed is {owed:?}\n{files}"))

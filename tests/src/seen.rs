@@ -6,7 +6,7 @@
 use crate::graph_trial::{CERTIFICATE_QUESTIONS, GRAPH_QUESTIONS};
 use crate::line_ends::CR_LF;
 use crate::stock_trial::STOCK_QUESTIONS;
-use std::collections::BTreeMap;
+use std::collections::{BTreeMap, BTreeSet};
 use std::fmt;
 
 #[derive(Clone, Copy, Debug, PartialEq, Eq, PartialOrd, Ord)]
@@ -58,7 +58,7 @@ fn add_counts(sum: &mut Counts, more: &Counts) {
     more.iter().for_each(|(came, count)| *sum.entry(*came).or_default() += count);
 }
 
-fn all() -> Vec<Came> {
+fn all() -> BTreeSet<Came> {
     let of_files = GRAPH_QUESTIONS.iter().chain(&STOCK_QUESTIONS).copied();
     let of_certificates = CERTIFICATE_QUESTIONS.iter().map(|number| number + 40);
     let refusals = [1].into_iter().chain(of_files).chain(of_certificates).map(Came::Refusal);

@@ -10,6 +10,7 @@ use crate::frames::{barrier_file, path_file};
 use crate::generate::{doubled_table, middling_graph, middling_stock, shuffled_graph, small_graph, small_stock};
 use crate::graph_trial::{self, canonical, mate, Graph};
 use crate::judge::{Judge, Trial};
+use crate::line_ends::all_ways;
 use crate::random::Random;
 use crate::reference::answer;
 
@@ -116,7 +117,7 @@ fn judge_faulty(judge: &mut Judge, kind: Kind, faults: &[u8]) -> Trial {
     match kind {
         Kind::Graph => {
             judge.graph_all_ways(&file)?;
-            judge.certificate_all_ways(&file, b"")
+            all_ways(&mut judge.random, &file).iter().try_for_each(|file| judge.check(file, b""))
         }
         Kind::Stock => judge.stock_all_ways(&file),
         Kind::Path | Kind::Barrier => judge.certificate_all_ways(&graph_for_certificates().file(), &file),
