@@ -1,25 +1,28 @@
 //! What is tried with the programs.
 //!   examples            document 01's known graphs and stocks, and its certificates
 //!   unopened_files      a file that can't be opened counts as empty
-//!   refusals            every question as the first failing one, of every file of every program
+//!   refusals            every question as the first failing one, of every file of every program, with all line ends
+//!   line_ends           document 01's examples with all line ends, and files with ends that are none
+//!   full_files          as many lines with CR LF as 60,000 bytes hold, and one byte more
 //!   other_bytes         files with bytes that are no digits, spelled otherwise, or followed by something
 //!   lengths             input of no byte, of 60,000 bytes, of one more and of many more
 //!   largest_files       8,192 arcs, 3,900 fits, and as many lines as 60,000 bytes hold
-//!   pieces              standard input that comes in two pieces
-//!   middling_files      random graphs and stocks
+//!   pieces              standard input that comes in two pieces, also cut between CR and LF
+//!   middling_files      random graphs and stocks, with all line ends
 //!   graph_sizes         paths of every number of arcs and barriers on every number of mate pairs, each checked as it is and spoiled
 //!   stock_sizes         sheets of every number of cameras, plans of every number of pairs
 //! The longest come first, so that a program that cuts is soon found.
 
-use crate::cases::one_of;
+use crate::cases::{graph_of_arcs, one_of};
 use crate::damage::{BYTES, DIGITS};
 use crate::engine::Verdict;
 use crate::faults::{failing, graph_for_certificates, questions, Kind, KINDS};
-use crate::frames::{file, path_file, plan_file, sheet_file, stock_file, GREATEST_FILE};
+use crate::frames::{file, path_file, plan_file, sheet_file, stock_file, CR, GREATEST_FILE};
 use crate::generate::{all_fits, middling_graph, middling_stock, nearly_largest_lit, some_fits, stock_of};
 use crate::judge::{shown, Trial};
 use crate::known::{graph, graphs, stocks, G4, G5};
 use crate::large::dense_graph;
+use crate::line_ends::{all_ways, cr_lf, replaced, to_length, CR_LF};
 use crate::prints::{refusal_line, verdict_line};
 use crate::programs::{Given, Programs};
 use crate::random::Random;
@@ -64,23 +67,64 @@ pub fn refusals(programs: &Programs, random: &mut Random) -> Trial {
     for kind in KINDS {
         for question in questions(kind) {
             let file = failing(random, kind, &[*question])?;
-            let printed = match kind {
-                Kind::Graph => vec![programs.graph(&file)?, programs.check(&file, &path_file(&[]))?],
-                Kind::Stock => programs.stock(&file)?.to_vec(),
-                Kind::Path | Kind::Barrier => vec![programs.check(&beside, &file)?],
-            };
-            let added = if matches!(kind, Kind::Path | Kind::Barrier) { 40 } else { 0 };
-            printed.iter().try_for_each(|line| owed(line, refusal_line(question + added)))?;
+            for file in all_ways(random, &file) {
+                let printed = match kind {
+                    Kind::Graph => vec![programs.graph(&file)?, programs.check(&file, &path_file(&[]))?],
+                    Kind::Stock => programs.stock(&file)?.to_vec(),
+                    Kind::Path | Kind::Barrier => vec![programs.check(&beside, &file)?],
+                };
+                let number = if file.len() > GREATEST_FILE { 2 } else { *question };
+                let added = if matches!(kind, Kind::Path | Kind::Barrier) { 40 } else { 0 };
+                printed.iter().try_for_each(|line| owed(line, refusal_line(number + added)))?;
+            }
         }
     }
     Ok(())
 }
 
+pub fn line_ends(programs: &Programs, random: &mut Random) -> Trial {
+    for known in graphs() {
+        let answers = all_ways(random, &known.answers[0]);
+        for file in all_ways(random, &known.graph.file()) {
+            one_of(known.name, &programs.graph(&file)?, &known.answers)?;
+            answers.iter().try_for_each(|answer| owed(&programs.check(&file, answer)?, verdict_line(Verdict::Yes)))?;
+        }
+    }
+    for known in stocks() {
+        for file in all_ways(random, &known.stock.file()) {
+            let [plan, sheet] = programs.stock(&file)?;
+            one_of(known.name, &plan, &known.plans)?;
+            one_of(known.name, &sheet, std::slice::from_ref(&known.sheet))?;
+        }
+    }
+    let g4 = cr_lf(&graph(2, &G4).file());
+    owed(&programs.check(&g4, &cr_lf(&path_file(&[0, 2, 1])))?, verdict_line(Verdict::No))?;
+    no_line_ends(programs)
+}
+
+/// Each line feed replaced by bytes that do not end a line, or something at a file's front, after its first digit or at its end.
+fn no_line_ends(programs: &Programs) -> Trial {
+    let changed = |change: &dyn Fn(&[u8]) -> Vec<u8>| {
+        let [graph, stock, certificate] = known_files().map(|file| change(&cr_lf(&file)));
+        refused_everywhere(programs, [&graph, &stock, &certificate], 3)
+    };
+    for end in [&b"\r"[..], b"\r\r\n", b"\n\r", b"\r\n\r\n", b"\r\n\n"] {
+        changed(&|file| replaced(file, CR_LF, end))?;
+    }
+    for more in [&b"\r"[..], b"\r\n"] {
+        changed(&|file| [more, file].concat())?;
+        changed(&|file| [&file[..1], more, &file[1..]].concat())?;
+        changed(&|file| [file, more].concat())?;
+    }
+    changed(&|file| file[..file.len() - 1].to_vec())?;
+    changed(&|file| file[..file.len() - 2].to_vec())
+}
+
 /// Files handed to every program, the check's graph and its certificate each beside one that is right. What was printed, in this order.
 fn everywhere(programs: &Programs, graph: &[u8], stock: &[u8], certificate: &[u8]) -> Result<[Vec<u8>; 5], String> {
-    let (right, answer) = (graphs()[4].graph.file(), &graphs()[4].answers[0]);
+    let [right, _, answer] = known_files();
     let [plan, sheet] = programs.stock(stock)?;
-    Ok([programs.graph(graph)?, plan, sheet, programs.check(graph, answer)?, programs.check(&right, certificate)?])
+    Ok([programs.graph(graph)?, plan, sheet, programs.check(graph, &answer)?, programs.check(&right, certificate)?])
 }
 
 /// The same where all are refused with one number.
@@ -89,6 +133,11 @@ fn refused_everywhere(programs: &Programs, files: [&[u8]; 3], number: u8) -> Tri
     let printed = everywhere(programs, graph, stock, certificate)?;
     printed[..4].iter().try_for_each(|line| owed(line, refusal_line(number)))?;
     owed(&printed[4], refusal_line(number + 40))
+}
+
+/// A graph, a stock and a certificate of that graph.
+fn known_files() -> [Vec<u8>; 3] {
+    [graphs()[4].graph.file(), stocks()[4].stock.file(), graphs()[4].answers[0].clone()]
 }
 
 pub fn lengths(programs: &Programs, _: &mut Random) -> Trial {
@@ -101,7 +150,7 @@ pub fn lengths(programs: &Programs, _: &mut Random) -> Trial {
 }
 
 pub fn other_bytes(programs: &Programs, random: &mut Random) -> Trial {
-    let good = [graphs()[4].graph.file(), stocks()[4].stock.file(), graphs()[4].answers[0].clone()];
+    let good = known_files();
     let refused = |change: &dyn Fn(&[u8]) -> Vec<u8>, number: u8| {
         let [graph, stock, certificate] = good.each_ref().map(|file| change(file));
         refused_everywhere(programs, [&graph, &stock, &certificate], number)
@@ -121,6 +170,9 @@ pub fn other_bytes(programs: &Programs, random: &mut Random) -> Trial {
     }
     Ok(())
 }
+
+/// Header, body line and end frame of a graph, a stock and a path that have too many lines.
+const LONG: [(&str, &str, u8); 3] = [("018000", "020002", 0x0F), ("117F", "120001", 0x1F), ("21", "220000", 0x2F)];
 
 /// As many body lines of right length as 60,000 bytes hold.
 const MOST_LINES: usize = 8_569;
@@ -150,11 +202,27 @@ pub fn largest_files(programs: &Programs, random: &mut Random) -> Trial {
     programs.stock(&stock_of(127, &fits, &lit).file())?;
     let printed = programs.stock(&stock_file(127, &all_fits(127)[..3_900], &all_fits(127)[..4_660]))?;
     printed.iter().try_for_each(|line| owed(line, refusal_line(13)))?;
-    let kinds = [("018000", "020002", 0x0F), ("117F", "120001", 0x1F), ("21", "220000", 0x2F)];
-    let files = kinds.map(|(header, line, end)| file(header, &vec![line.to_string(); MOST_LINES], end));
+    let files = LONG.map(|(header, line, end)| file(header, &vec![line.to_string(); MOST_LINES], end));
     refused_everywhere(programs, files.each_ref().map(|file| &file[..]), 8)?;
     for (bytes, number) in [(GREATEST_FILE, 6), (GREATEST_FILE + 1, 2)] {
-        let files = kinds.map(|(header, line, end)| filled(header, line, end, bytes));
+        let files = LONG.map(|(header, line, end)| filled(header, line, end, bytes));
+        refused_everywhere(programs, files.each_ref().map(|file| &file[..]), number)?;
+    }
+    Ok(())
+}
+
+/// 7,498 arcs with CR LF throughout; more with both ends; more lines than question 8 takes.
+pub fn full_files(programs: &Programs, _: &mut Random) -> Trial {
+    let barrier = &graphs()[2].answers[0];
+    let fullest = cr_lf(&graph_of_arcs(2, 7_498));
+    for graph in [&fullest, &to_length(&graph_of_arcs(2, 8_192), GREATEST_FILE)] {
+        owed(&programs.graph(graph)?, barrier.clone())?;
+        owed(&programs.check(graph, &cr_lf(barrier))?, verdict_line(Verdict::Yes))?;
+    }
+    owed(&programs.graph(&cr_lf(&graph_of_arcs(2, 7_500)))?, refusal_line(2))?;
+    programs.stock(&cr_lf(&stock_file(127, &all_fits(127)[..3_900], &[])))?;
+    for (bytes, number) in [(GREATEST_FILE, 8), (GREATEST_FILE + 1, 2)] {
+        let files = LONG.map(|(header, line, end)| to_length(&file(header, &vec![line.to_string(); 7_499], end), bytes));
         refused_everywhere(programs, files.each_ref().map(|file| &file[..]), number)?;
     }
     Ok(())
@@ -163,15 +231,28 @@ pub fn largest_files(programs: &Programs, random: &mut Random) -> Trial {
 pub fn pieces(programs: &Programs, _: &mut Random) -> Trial {
     let (graph, stock) = (graphs()[4].graph.file(), stocks()[6].stock.file());
     programs.graph_in_pieces(&[&graph[..25], &graph[25..]])?;
-    programs.stock_in_pieces(&[&stock[..30], &stock[30..]]).map(drop)
+    programs.stock_in_pieces(&[&stock[..30], &stock[30..]])?;
+    let (graph, stock) = (cr_lf(&graph), cr_lf(&stock));
+    programs.graph_in_pieces(&between_cr_and_lf(&graph))?;
+    programs.stock_in_pieces(&between_cr_and_lf(&stock)).map(drop)
+}
+
+/// The file in three pieces, cut in the first and in the last of its ends.
+fn between_cr_and_lf(file: &[u8]) -> [&[u8]; 3] {
+    let first = file.iter().position(|byte| *byte == CR).map_or(0, |place| place + 1);
+    let last = file.len() - 1;
+    [&file[..first], &file[first..last], &file[last..]]
 }
 
 pub fn middling_files(programs: &Programs, random: &mut Random) -> Trial {
-    for _ in 0..30 {
+    for _ in 0..10 {
         let graph = middling_graph(random).file();
-        let answer = programs.graph(&graph)?;
-        owed(&programs.check(&graph, &answer)?, verdict_line(Verdict::Yes))?;
-        programs.stock(&middling_stock(random).file())?;
+        for graph in all_ways(random, &graph) {
+            let answer = programs.graph(&graph)?;
+            owed(&programs.check(&graph, &answer)?, verdict_line(Verdict::Yes))?;
+        }
+        let stock = middling_stock(random).file();
+        all_ways(random, &stock).iter().try_for_each(|stock| programs.stock(stock).map(drop))?;
     }
     Ok(())
 }

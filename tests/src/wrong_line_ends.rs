@@ -2,6 +2,7 @@
 //!   engines     each with what is wrong of it
 //!   reading     every file changed before it is read
 //!   answering, refusing    one question answered in another way, or answered no for one more reason
+//!   any_return_ends, returns_refused    a file changed as it is read where CR alone is an end, or where none is
 //! Most of them read, once question 2 is answered, a file that was changed first: what they take for an end is made LF, what they do not
 //! take is made a byte that is no digit.
 
@@ -90,11 +91,11 @@ fn reading(change: Change) -> Parts {
 
 const NO_DIGIT: u8 = b'.';
 
-fn any_return_ends(file: &[u8]) -> Vec<u8> {
+pub fn any_return_ends(file: &[u8]) -> Vec<u8> {
     replaced(&replaced(file, CR_LF, b"\n"), b"\r", b"\n")
 }
 
-fn returns_refused(file: &[u8]) -> Vec<u8> {
+pub fn returns_refused(file: &[u8]) -> Vec<u8> {
     replaced(file, b"\r", &[NO_DIGIT])
 }
 

@@ -3,9 +3,11 @@
 //!   all              every one: each slip in each program that can make it, the other programs being right
 //!   manner           that of a program, right or with a slip
 
-use crate::frames::path_file;
+use crate::frames::{path_file, CR, GREATEST_FILE, LF};
+use crate::line_ends::{cr_lf, replaced, CR_LF};
 use crate::prints::{refusal_line, CHECK_PROGRAM, GRAPH_PROGRAM, PLAN_PROGRAM, SHEET_PROGRAM};
 use crate::stand_in::{read_all, Manner, CERTIFICATE_FILE, GRAPH_FILE, WRONG_STATUS};
+use crate::wrong_line_ends::{any_return_ends, returns_refused};
 use std::io::{Read, Result as Done};
 
 pub struct WrongProgram {
@@ -50,12 +52,19 @@ pub fn manner(program: &str, wrongly: Option<&str>) -> Result<Manner, String> {
 
 // ---- reading
 
-const READING: [Slip; 7] = [
+const READING: [Slip; 11] = [
     ("reads only the first 4,096 bytes", |right| Manner { read: |_, input| first(input, 4_096), ..right }),
     ("reads only the first 32,768 bytes", |right| Manner { read: |_, input| first(input, 32_768), ..right }),
     ("reads only the first 60,000 bytes", |right| Manner { read: |_, input| first(input, 60_000), ..right }),
     ("stops reading at a zero byte", |right| Manner { read: |_, input| changed(input, before_zero), ..right }),
     ("passes over carriage returns", |right| Manner { read: |_, input| changed(input, without_returns), ..right }),
+    ("stops reading at a carriage return", |right| Manner { read: |_, input| changed(input, before_return), ..right }),
+    ("refuses carriage returns", |right| Manner { read: |_, input| changed(input, |bytes| returns_refused(&bytes)), ..right }),
+    ("takes a carriage return for a line end", |right| Manner {
+        read: |_, input| changed(input, |bytes| any_return_ends(&bytes)),
+        ..right
+    }),
+    ("counts CR LF as one byte", |right| Manner { read: |_, input| changed(input, long_shortened), ..right }),
     ("takes lower-case digits", |right| Manner { read: |_, input| changed(input, |bytes| bytes.to_ascii_uppercase()), ..right }),
     ("takes a last line without its line feed", |right| Manner { read: |_, input| changed(input, ended), ..right }),
 ];
@@ -73,7 +82,20 @@ fn before_zero(bytes: Vec<u8>) -> Vec<u8> {
 }
 
 fn without_returns(bytes: Vec<u8>) -> Vec<u8> {
-    bytes.into_iter().filter(|byte| *byte != b'\r').collect()
+    replaced(&bytes, b"\r", b"")
+}
+
+fn before_return(bytes: Vec<u8>) -> Vec<u8> {
+    bytes.into_iter().take_while(|byte| *byte != CR).collect()
+}
+
+/// What is too long only by its carriage returns is read without them.
+fn long_shortened(bytes: Vec<u8>) -> Vec<u8> {
+    if bytes.len() > GREATEST_FILE {
+        replaced(&bytes, CR_LF, b"\n")
+    } else {
+        bytes
+    }
 }
 
 fn ended(mut bytes: Vec<u8>) -> Vec<u8> {
@@ -81,6 +103,22 @@ fn ended(mut bytes: Vec<u8>) -> Vec<u8> {
         bytes.push(b'\n');
     }
     bytes
+}
+
+/// Whatever each reading gives; where one ended with a carriage return, the next does not go on with its line feed.
+fn read_in_pieces(_: &str, input: &mut dyn Read) -> Done<Vec<u8>> {
+    let mut bytes = Vec::new();
+    let mut piece = [0; 65_536];
+    loop {
+        let number = input.read(&mut piece)?;
+        if number == 0 {
+            return Ok(bytes);
+        }
+        if bytes.ends_with(&[CR]) {
+            bytes.push(LF);
+        }
+        bytes.extend_from_slice(&piece[..number]);
+    }
 }
 
 /// Whatever one reading gives; of a pipe that may be a piece.
@@ -96,18 +134,14 @@ fn read_once(_: &str, input: &mut dyn Read) -> Done<Vec<u8>> {
 const PRINTING: [Slip; 7] = [
     ("prints no last line feed", |right| Manner { print: |text| text[..text.len() - 1].to_vec(), ..right }),
     ("prints one line feed more", |right| Manner { print: |text| [&text[..], b"\n"].concat(), ..right }),
-    ("prints carriage returns", |right| Manner { print: with_returns, ..right }),
+    ("prints carriage returns", |right| Manner { print: |text| cr_lf(&text), ..right }),
     ("prints lower-case digits", |right| Manner { print: |text| text.to_ascii_lowercase(), ..right }),
     ("prints refusals in base ten", |right| Manner { refusal: |number| format!("7E{number:02}\n").into_bytes(), ..right }),
     ("prints nothing for a refusal", |right| Manner { refusal: |_| Vec::new(), ..right }),
     ("ends with status 1", |right| Manner { status: WRONG_STATUS, ..right }),
 ];
 
-fn with_returns(text: Vec<u8>) -> Vec<u8> {
-    String::from_utf8_lossy(&text).replace('\n', "\r\n").into_bytes()
-}
-
-const ANSWERS: [Slip; 4] = [
+const ANSWERS: [Slip; 5] = [
     ("prints only answers under 64 bytes", |right| Manner {
         print: |text| if text.len() < 64 { text } else { Vec::new() },
         ..right
@@ -115,6 +149,7 @@ const ANSWERS: [Slip; 4] = [
     ("cuts answers at 256 bytes", cut::<256>),
     ("loses answers of 41 lines", |right| Manner { print: |text| if lines(&text) == 41 { Vec::new() } else { text }, ..right }),
     ("reads its input once", |right| Manner { read: read_once, ..right }),
+    ("takes a carriage return at the end of a piece for a line end", |right| Manner { read: read_in_pieces, ..right }),
 ];
 
 fn lines(text: &[u8]) -> usize {
@@ -127,9 +162,14 @@ fn cut<const MOST: usize>(right: Manner) -> Manner {
 
 // ---- the check
 
-const OF_CHECK: [Slip; 5] = [
+const OF_CHECK: [Slip; 7] = [
     ("takes graph and certificate for each other", |right| Manner { names: [CERTIFICATE_FILE, GRAPH_FILE], ..right }),
     ("reads only the first 1,800 bytes of cert.hex", |right| Manner { read: short_certificate, ..right }),
+    ("refuses carriage returns in graph.hex", |right| Manner { read: |name, input| refusing(GRAPH_FILE, name, input), ..right }),
+    ("refuses carriage returns in cert.hex", |right| Manner {
+        read: |name, input| refusing(CERTIFICATE_FILE, name, input),
+        ..right
+    }),
     ("says yes for no and no for yes", |right| Manner { print: other_verdict, ..right }),
     ("prints a certificate's refusal without 40", |right| Manner { refusal: without_40, ..right }),
     ("prints a certificate's refusal with 64 added", |right| Manner { refusal: with_64, ..right }),
@@ -137,6 +177,10 @@ const OF_CHECK: [Slip; 5] = [
 
 fn short_certificate(name: &str, input: &mut dyn Read) -> Done<Vec<u8>> {
     first(input, if name == CERTIFICATE_FILE { 1_800 } else { u64::MAX })
+}
+
+fn refusing(in_file: &str, name: &str, input: &mut dyn Read) -> Done<Vec<u8>> {
+    changed(input, if name == in_file { |bytes| returns_refused(&bytes) } else { |bytes| bytes })
 }
 
 fn other_verdict(text: Vec<u8>) -> Vec<u8> {
