@@ -5,7 +5,7 @@
 //!   edges                             sizes at which a question changes its answer, and the buffer's
 //!   traps                             document 01's traps
 //!   one_of                            an answer is among those that the document allows
-//!   graph_answer ..                   what one call answers, judged
+//!   plan_answer, sheet_answer         what one call answers, judged
 //!   by_trial, graph_refusal, stock_refusal, verdict    the trial and the engine held to what is plain beforehand; 0 for an answer
 //!   graph_of_arcs                     a graph of a number of arcs
 //!   points_left_to_the_reader         what is decided where document 01 can be read in two ways
@@ -38,7 +38,7 @@ pub fn one_of(name: &str, answer: &[u8], right: &[Vec<u8>]) -> Trial {
     }
 }
 
-pub fn graph_answer(judge: &mut Judge, file: &[u8]) -> Result<Vec<u8>, String> {
+fn graph_answer(judge: &mut Judge, file: &[u8]) -> Result<Vec<u8>, String> {
     judge.lend(Call::Graph, file, LEAST_ROOM, &graph_owed(&graph_truth(file)))
 }
 

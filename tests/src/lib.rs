@@ -1,37 +1,38 @@
 //! The engine tried from outside. The trial is written from documents 01 and 02 alone and shares nothing with the engine.
-//!   random          a seeded source of numbers
-//!   frames          files of frames: written and read
-//!   line_ends       files with other line ends, right or damaged
-//!   graph_trial     graphs, regular paths, barriers and certificates, by trial of everything
-//!   stock_trial     stocks, pairings, marks and plans, by trial of everything
-//!   blossom         maximum matchings of any size
-//!   arc_matching    regular paths of any size, by matchings
-//!   truth           what the documents say of a file
-//!   engine          the calls, and the proved engine where it is linked
-//!   reference       an engine made of the trial's parts
-//!   wrong, slips, wrong_line_ends    engines with one part wrong
-//!   judge           a call judged whole: result, buffer, tally
-//!   seen            what was tried, counted
-//!   generate        random graphs and stocks
-//!   faults          files that fail chosen questions
-//!   known           document 01's known graphs and stocks
-//!   cases           document 01's examples, edges and traps
-//!   exhaustive      every graph, stock and certificate of a small size
-//!   trials          random graphs, stocks, certificates and faults
-//!   damage          files damaged, cut off, or of random bytes
-//!   shapes          graphs and stocks made to measure
-//!   sizes           answers of every size
-//!   large           the largest files
-//!   line_end_trials    line ends: every choice, wrong ones, damaged ones, and lengths
-//!   prints          what the programs print
-//!   programs        the programs, run and judged
-//!   stand_in        this binary in a program's place
-//!   wrong_programs  programs that go about it wrongly
-//!   program_trials  what is tried with the programs
-//!   self_checks     the trial against itself
-//!   groups          all that is tried, by name
-//!   options         the words of a run
-//!   summary         a run, told line by line
+//!   random           a seeded source of numbers
+//!   frames           files of frames: written and read
+//!   line_ends        files with other line ends, right or damaged
+//!   graph_trial      graphs, regular paths, barriers and certificates, by trial of everything
+//!   stock_trial      stocks, pairings, marks and plans, by trial of everything
+//!   blossom          maximum matchings of any size
+//!   arc_matching     regular paths of any size, by matchings
+//!   truth            what the documents say of a file
+//!   engine           the calls, and the proved engine where it is linked
+//!   reference        an engine made of the trial's parts
+//!   wrong, slips     engines with one part wrong
+//!   wrong_line_ends  engines that take line ends wrongly
+//!   judge            a call judged whole: result, buffer, tally
+//!   seen             what was tried, counted
+//!   generate         random graphs and stocks
+//!   faults           files that fail chosen questions
+//!   known            document 01's known graphs and stocks
+//!   cases            document 01's examples, edges and traps
+//!   exhaustive       every graph, stock and certificate of a small size
+//!   trials           random graphs, stocks, certificates and faults
+//!   damage           files damaged, cut off, or of random bytes
+//!   shapes           graphs and stocks made to measure
+//!   sizes            answers of every size
+//!   large            the largest files
+//!   line_end_trials  line ends: every choice, wrong ones, damaged ones, and lengths
+//!   prints           what the programs print
+//!   programs         the programs, run and judged
+//!   stand_in         this binary in a program's place
+//!   wrong_programs   programs that go about it wrongly
+//!   program_trials   what is tried with the programs
+//!   self_checks      the trial against itself
+//!   groups           all that is tried, by name
+//!   options          the words of a run
+//!   summary          a run, told line by line
 
 pub mod arc_matching;
 pub mod blossom;

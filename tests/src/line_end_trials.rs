@@ -7,9 +7,7 @@
 //!   largest_certificates    the longest path and the largest barrier, longer with CR LF than any answer
 //! What each file gets is told here too, where it is plain, and the trial is held to it.
 
-use crate::cases::{
-    by_trial, graph_answer, graph_of_arcs, graph_refusal, one_of, plan_answer, sheet_answer, stock_refusal, verdict,
-};
+use crate::cases::{by_trial, graph_of_arcs, graph_refusal, one_of, plan_answer, sheet_answer, stock_refusal, verdict};
 use crate::engine::Verdict;
 use crate::frames::{file, path_file, stock_file, GREATEST_FILE};
 use crate::generate::{all_fits, nearly_largest_lit, random_graph, some_fits, stock_of};
@@ -25,8 +23,7 @@ pub fn known_files(judge: &mut Judge) -> Trial {
     for known in graphs() {
         let file = known.graph.file();
         for ended in every_choice(&file) {
-            judge.graph(&ended)?;
-            one_of(known.name, &graph_answer(judge, &ended)?, &known.answers)?;
+            one_of(known.name, &judge.graph_answer(&ended)?, &known.answers)?;
         }
         known.answers.iter().try_for_each(|answer| verdict_of_all(judge, &file, answer, Verdict::Yes))?;
     }

@@ -7,7 +7,7 @@
 //!   other_bytes         files with bytes that are no digits, spelled otherwise, or followed by something
 //!   lengths             input of no byte, of 60,000 bytes, of one more and of many more
 //!   largest_files       8,192 arcs, 3,900 fits, and as many lines as 60,000 bytes hold
-//!   pieces              standard input that comes in two pieces, also cut between CR and LF
+//!   pieces              standard input that comes in pieces, also cut between CR and LF
 //!   middling_files      random graphs and stocks, with all line ends
 //!   graph_sizes         paths of every number of arcs and barriers on every number of mate pairs, each checked as it is and spoiled
 //!   stock_sizes         sheets of every number of cameras, plans of every number of pairs
