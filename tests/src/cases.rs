@@ -16,6 +16,7 @@ use crate::generate::all_fits;
 use crate::graph_trial;
 use crate::judge::{shown, Call, Judge, Trial, LEAST_ROOM};
 use crate::known::{graph, graphs, stock, stocks, KnownGraph, KnownStock, G3, G4, G5, S7};
+use crate::line_ends::cr_lf;
 use crate::prints::verdict_line;
 use crate::stock_trial;
 use crate::truth::{graph_owed, graph_truth, plan_owed, sheet_owed, stock_truth, Count};
@@ -244,6 +245,7 @@ pub fn examples_folder(judge: &mut Judge) -> Trial {
         example_is(&format!("{name}.sheet"), &[sheet])?;
         example_is(&format!("{name}.plan"), &plans)?;
     }
+    example_is("S7_crlf.stock", &[cr_lf(&example("S7.stock")?)])?;
     for (name, arcs, right) in [("G4", [0, 2, 1], Verdict::No), ("G5", [0, 2, 5], Verdict::Yes)] {
         example_is(&format!("{name}.certificate"), &[path_file(&arcs)])?;
         example_is(&format!("{name}.verdict"), &[verdict_line(right)])?;
