@@ -3,8 +3,8 @@
 import random
 
 
-def stock(name, cameras, fits, lit):
-    with open(name, 'w') as f:
+def stock(name, cameras, fits, lit, end='\n'):
+    with open(name, 'w', newline=end) as f:
         f.write('11%02X\n' % cameras)
         for u, v in sorted(fits):
             f.write('12%02X%02X\n' % (u, v))
@@ -13,8 +13,8 @@ def stock(name, cameras, fits, lit):
         f.write('1F%04X\n' % (len(fits) + len(lit)))
 
 
-def graph(name, arcs):
-    with open(name, 'w') as f:
+def graph(name, arcs, end='\n'):
+    with open(name, 'w', newline=end) as f:
         f.write('018000\n')
         for tail, head in arcs:
             f.write('02%02X%02X\n' % (tail, head))
@@ -24,9 +24,13 @@ def graph(name, arcs):
 
 random.seed(1)
 every = [(u, v) for u in range(127) for v in range(u + 1, 127)]
-stock('random.stock', 127, random.sample(every, 3900), [])
+fits = random.sample(every, 3900)
+stock('random.stock', 127, fits, [])
+stock('random_crlf.stock', 127, fits, [], '\r\n')
 triangles = [(3 * i + a, 3 * i + b) for i in range(42) for a, b in ((0, 1), (0, 2), (1, 2))]
 stock('triangles.stock', 126, triangles + [(3 * i + 2, 3 * i + 3) for i in range(41)], [])
 stock('chain.stock', 126, [(i, i + 1) for i in range(125)], [(i, i + 1) for i in range(1, 124, 2)])
-graph('even.graph', [(2 * random.randrange(128), 2 * random.randrange(128)) for _ in range(4096)])
+even = [(2 * random.randrange(128), 2 * random.randrange(128)) for _ in range(4096)]
+graph('even.graph', even)
+graph('even_crlf.graph', even[:3749], '\r\n')  # the largest that 60,000 bytes hold with these line ends
 graph('buds.graph', [(0, 2)] + [(random.randrange(2, 256), random.randrange(2, 256)) for _ in range(4095)])
