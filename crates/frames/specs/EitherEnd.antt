@@ -32,8 +32,9 @@ withReturns z f = returnsFrom 0 0 z f
 
 abbrev pub LinesKept : Type 0
 LinesKept =
-    (z : ℕ → Bool) (f : List ℕ) →
-    (linesOf (withReturns z f) ≡ linesOf f) × (endsWhole (withReturns z f) ≡ endsWhole f) × (length f ≤ length (withReturns z f))
+    (chosen : ℕ → Bool) (f : List ℕ) →
+    (linesOf (withReturns chosen f) ≡ linesOf f) × (endsWhole (withReturns chosen f) ≡ endsWhole f) ×
+    (length f ≤ length (withReturns chosen f))
 
 -- LINES WITH A CHOICE OF END for each
 pub record Ended : Type 0 where
