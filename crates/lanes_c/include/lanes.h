@@ -3,6 +3,8 @@
  * A file and a buffer are a pointer and a number of bytes, each readable (a buffer also writable) over its whole length during the call; a buffer
  * overlaps neither the file nor the tally. No pointer is null. A call keeps nothing behind and may run in several threads at once.
  *
+ * The lines of a file end with a line feed or with a carriage return and a line feed, also mixed in one file; those of an answer with a line feed alone.
+ *
  * The tally is four counts, in this order: paths, barriers, stock answers, refusals. Each call but the check counts one up; a count at
  * 4,294,967,295 stays there. Start with zeros and hand the same four to every call.
  *
