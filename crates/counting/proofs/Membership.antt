@@ -7,6 +7,7 @@
 --   all-each, each-all                all f xs: each element has f
 --   all-getD, getD-all                the same by index
 --   any-getD, getD-any                and any f xs by index
+--   all-take, all-drop, all-append    all f of a part of a list, and of lists joined
 --   among-in, in-among                among x xs: x is an element
 --   not-among-out, out-not-among      and where it is not
 use mathlib.Core.Path.{_≡_, refl, sym, ap}
@@ -16,7 +17,7 @@ use mathlib.Core.List.{List, [], _∷_, _++_}
 use Prim.Native.Nat.{ℕ, zero, suc, _<_}
 use native.Mathlib.Omega.{arith}
 use lib.Dec.{eqb}
-use lib.ListN.{length, getD}
+use lib.ListN.{length, getD, take, drop}
 use borrow.Author.Tests.{eqb-true, eq-eqb, not-true}
 use Rattle.counting.specs.Tests.{all, any, among}
 use Rattle.counting.specs.Lists.{In}
@@ -109,6 +110,26 @@ unfolding any
 getD-any f [] d i h e = absurd (omega arith)
 getD-any f (x ∷ xs) d zero h e = rw e
 getD-any f (x ∷ xs) d (suc i) h e = or-right (f x) (any f xs) (getD-any f xs d i (omega arith) e)
+
+-- EACH ELEMENT of a part of a list, and of lists joined
+pub all-take : {A : Type 0} (f : A → Bool) (n : ℕ) (xs : List A) → all f xs ≡ true → all f (take n xs) ≡ true
+unfolding all
+all-take f zero xs h = refl
+all-take f (suc n) [] h = refl
+all-take f (suc n) (x ∷ xs) h =
+    and-both (f x) (all f (take n xs)) (and-left (f x) (all f xs) h) (all-take f n xs (and-right (f x) (all f xs) h))
+
+pub all-drop : {A : Type 0} (f : A → Bool) (n : ℕ) (xs : List A) → all f xs ≡ true → all f (drop n xs) ≡ true
+unfolding all
+all-drop f zero xs h = h
+all-drop f (suc n) [] h = refl
+all-drop f (suc n) (x ∷ xs) h = all-drop f n xs (and-right (f x) (all f xs) h)
+
+pub all-append : {A : Type 0} (f : A → Bool) (xs ys : List A) → all f xs ≡ true → all f ys ≡ true → all f (xs ++ ys) ≡ true
+unfolding all
+all-append f [] ys h g = g
+all-append f (x ∷ xs) ys h g =
+    and-both (f x) (all f (xs ++ ys)) (and-left (f x) (all f xs) h) (all-append f xs ys (and-right (f x) (all f xs) h) g)
 
 -- AMONG
 pub among-in : (x : ℕ) (xs : List ℕ) → among x xs ≡ true → In x xs

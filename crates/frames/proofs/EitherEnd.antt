@@ -15,11 +15,10 @@ use lib.ListN.{length, getD}
 use borrow.Author.Tests.{eqb-true, eqb-false, ne-eqb, ltb-true, ltb-false, le-leb, not-true}
 use Rattle.counting.specs.Tests.{pick, all, among}
 use Rattle.counting.proofs.Booleans.{and-two, and-three, or-right, or-false-left, or-false-right, by-test, true-false}
-use Rattle.counting.proofs.Membership.{all-each, each-all}
+use Rattle.counting.proofs.Membership.{all-each, each-all, all-append}
 use Rattle.frames.specs.Frames.{isIn, isDigit, isCrLf, withByte, linesOf, endsWhole, isFrame, isWholeFile, digitByte, hexBytes, frame2, frame4, frame6, frameOf4}
 use Rattle.frames.specs.EitherEnd.{returnsFrom, LinesKept, Ended, ended, endBytes, textOf, bytesOf, isInner, LinesRead, WholeIs, feedLines, FeedsAsBefore, isPlainText, WritesDigits}
 use Rattle.frames.proofs.LineEnds.{digit-other, by-front, ends-more, feed-ends}
-use Rattle.frames.proofs.LinePlaces.{all-append}
 
 -- CARRIAGE RETURNS PUT IN
 module _ (z : ℕ → Bool) where

@@ -18,9 +18,9 @@ use lib.Seq.{drop-cons, drop-drop, take-take}
 use borrow.Author.Tests.{leb-true}
 use Rattle.counting.specs.Tests.{all}
 use Rattle.counting.proofs.Booleans.{and-left, and-right, or-cases, by-test}
+use Rattle.counting.proofs.Membership.{all-take, all-drop}
 use Rattle.frames.specs.Frames.{isIn, isDigit, digitOf, hexFrom, hexAt}
 use Rattle.frames.specs.Lines.{part}
-use Rattle.frames.proofs.LinePlaces.{all-take, all-drop}
 
 -- one digit more, from the front
 hex-step : (s i n : ℕ) (f : List ℕ) → i < length f →

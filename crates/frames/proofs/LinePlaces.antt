@@ -9,19 +9,17 @@
 --   ends-here                                     whether the last line is ended, from a place on
 --   part-snoc                                     a part with one byte more
 --   part-length, part-tail                        how long a part is; a part that goes on to the file's end
---   all-take, all-drop, all-append                what holds of every element: of a part, of lists joined
 use mathlib.Core.Path.{_≡_, refl, ap, sym, _∙_}
-use mathlib.Core.Bool.{Bool, true, _&&_}
+use mathlib.Core.Bool.{_&&_}
 use mathlib.Core.List.{List, [], _∷_, _++_}
-use Prim.Native.Nat.{ℕ, zero, suc, _+_, _-_, _≤_, _<_}
+use Prim.Native.Nat.{ℕ, suc, _+_, _-_, _≤_, _<_}
 use native.Mathlib.Omega.{arith}
 use native.Mathlib.Numerals.{add-one}
 use lib.Dec.{ltb}
 use lib.ListN.{length, getD, take, drop, length-drop, drop-of-length-le}
 use lib.Seq.{drop-cons, drop-drop, take-suc, take-all, getD-drop, length-take-le}
 use borrow.Author.Tests.{ltb-true, ltb-false, lt-ltb, le-ltb}
-use Rattle.counting.specs.Tests.{all}
-use Rattle.counting.proofs.Booleans.{and-left, and-right, and-both, by-test}
+use Rattle.counting.proofs.Booleans.{by-test}
 use Rattle.frames.specs.Frames.{withByte, linesOf, endsWhole}
 use Rattle.frames.specs.Lines.{lineEnd, controlAt, lineLength, part, lineAfter, LineAt}
 use Rattle.frames.proofs.LineEnds.{end-none, end-fits, end-above, lines-end, lines-byte, ends-end, ends-byte}
@@ -122,26 +120,6 @@ part-length at end f h = length-take-le (end - at) (drop at f) (simp length-drop
 -- as `&f[n..]` leaves it
 pub part-tail : (n : ℕ) (f : List ℕ) → part n (length f) f ≡ drop n f
 part-tail n f = take-all (length f - n) (drop n f) (simp length-drop (omega arith))
-
--- what holds of every element holds of every element of a part
-pub all-take : {A : Type 0} (p : A → Bool) (n : ℕ) (xs : List A) → all p xs ≡ true → all p (take n xs) ≡ true
-unfolding all
-all-take p zero xs h = refl
-all-take p (suc n) [] h = refl
-all-take p (suc n) (x ∷ xs) h =
-    and-both (p x) (all p (take n xs)) (and-left (p x) (all p xs) h) (all-take p n xs (and-right (p x) (all p xs) h))
-
-pub all-drop : {A : Type 0} (p : A → Bool) (n : ℕ) (xs : List A) → all p xs ≡ true → all p (drop n xs) ≡ true
-unfolding all
-all-drop p zero xs h = h
-all-drop p (suc n) [] h = refl
-all-drop p (suc n) (x ∷ xs) h = all-drop p n xs (and-right (p x) (all p xs) h)
-
-pub all-append : {A : Type 0} (p : A → Bool) (xs ys : List A) → all p xs ≡ true → all p ys ≡ true → all p (xs ++ ys) ≡ true
-unfolding all
-all-append p [] ys h g = g
-all-append p (x ∷ xs) ys h g =
-    and-both (p x) (all p (xs ++ ys)) (and-left (p x) (all p xs) h) (all-append p xs ys (and-right (p x) (all p xs) h) g)
 
 -- A LINE at a place
 pub line-here : (f : List ℕ) (at end next : ℕ) → at < length f → end ≡ at + lineLength (drop at f) → next ≡ end + lineEnd (drop end f) →

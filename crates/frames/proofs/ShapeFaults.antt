@@ -15,12 +15,11 @@ use lib.ListN.{length, take, drop, length-drop, take-append-drop}
 use borrow.Author.Tests.{eq-eqb, eqb-true, ltb-true}
 use Rattle.counting.specs.Tests.{pick, all}
 use Rattle.counting.proofs.Booleans.{and-right, and-both, and-three}
-use Rattle.counting.proofs.Membership.{all-each, each-all, all-getD}
+use Rattle.counting.proofs.Membership.{all-each, each-all, all-getD, all-take, all-drop, all-append}
 use Rattle.frames.specs.Frames.{unless, linesOf, endsWhole, isDigit, isFrame, isWholeFile, hexAt, kindOf, Form, isFrameOf, restLines, lastLine, bodyLines, bodiesFit, shapeFault, pairIn, pairsIn}
 use Rattle.frames.specs.Questions.{ask, firstNo}
 use Rattle.frames.specs.Lines.{isPlain, lineAfter, LineAt}
 use Rattle.frames.specs.Shape.{bodiesOf, firstKind, lastKind, headerQuestions, headerFault, bodyQuestions, bodyFault, shapeQuestions, sizedQuestions, HeaderAnswer, BodyAnswer, Shaped, ShapeAnswer}
-use Rattle.frames.proofs.LinePlaces.{all-take, all-drop, all-append}
 use Rattle.frames.proofs.HexNumbers.{hex-small}
 use Rattle.frames.proofs.Questions.{chain-first, first-stop, first-go, first-none, accepted, answered-none, answered-refused}
 use Rattle.frames.proofs.BodyFrames.{frame-length, first-kind, last-kind, fit-bodies, fit-runs}

@@ -20,12 +20,11 @@ use borrow.Author.Tests.{eqb-true, le-leb}
 use Rattle.counting.specs.Tests.{all}
 use Rattle.counting.specs.Pairs.{Pair}
 use Rattle.counting.proofs.Booleans.{and-left, and-right, and-both}
-use Rattle.counting.proofs.Membership.{all-each, each-all}
+use Rattle.counting.proofs.Membership.{all-each, each-all, all-append}
 use Rattle.frames.specs.Frames.{linesOf, isDigit, Form, lastLine, bodyLines, restLines, pairsIn, numbersIn}
 use Rattle.frames.specs.Lines.{isPlain}
 use Rattle.frames.specs.Shape.{firstKind, lastKind, Shaped}
 use Rattle.frames.specs.Stores.{hasKind, runOf, pastRun, runAt, isLong, Storable, Passed}
-use Rattle.frames.proofs.LinePlaces.{all-append}
 use Rattle.frames.proofs.BodyFrames.{split-last}
 use Rattle.frames.proofs.LineCounts.{long-few}
 use Rattle.frames.proofs.Runs.{other-kind, frames-kind, run-only, run-first, run-second, run-pairs, pairs-first, pairs-second}

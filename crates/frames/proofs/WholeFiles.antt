@@ -16,11 +16,11 @@ use lib.Seq.{drop-cons, drop-length, getD-take, getD-drop}
 use borrow.Author.Tests.{lt-ltb, le-ltb, ltb-true, ltb-false, eq-eqb, ne-eqb}
 use Rattle.counting.specs.Tests.{all}
 use Rattle.counting.proofs.Booleans.{and-both, by-test, true-false}
-use Rattle.counting.proofs.Membership.{all-getD}
+use Rattle.counting.proofs.Membership.{all-getD, all-append}
 use Rattle.frames.specs.Frames.{isDigit, isFrame, linesOf, endsWhole, isWholeFile}
 use Rattle.frames.specs.Lines.{lineEnd, lineLength, part, LineAt}
 use Rattle.frames.proofs.LineEnds.{byte-inside, end-digit}
-use Rattle.frames.proofs.LinePlaces.{part-snoc, part-length, all-append, line-here, lines-here, ends-here, SameLine, same-start, same-next, same-over}
+use Rattle.frames.proofs.LinePlaces.{part-snoc, part-length, line-here, lines-here, ends-here, SameLine, same-start, same-next, same-over}
 
 -- DIGITS of a line, one after the other
 pub record DigitsUpTo (f : List ℕ) (at i : ℕ) : Type 0 where
