@@ -143,25 +143,25 @@ pub fn are_fits(
     true
 }
 
-// 14: is no camera in two pairs? A table has a mark for each camera of the pairs passed.
+// 14: is no camera in two pairs? A table has a flag for each camera of the pairs passed.
 pub fn none_shared(firsts: &[u8], seconds: &[u8], count: usize) -> bool
     requires { ⌜ Holds count (now firsts) (now seconds) ⌝ }
     ensures { λ r. ⌜ r ≡ noneShared (pairsOf count (now (firsts .entry)) (now (seconds .entry))) ⌝ }
 {
-    let mut marks = [0u8; 256];
+    let mut flags = [0u8; 256];
     let mut i: usize = 0;
-    // invariant: proofs/SharedCameras sharesNone, of the marks and the pairs from i on; falls: pairs left
+    // invariant: proofs/SharedCameras sharesNone, of the flags and the pairs from i on; falls: pairs left
     while i < count {
         let u = firsts[i] as usize;
         let v = seconds[i] as usize;
-        if marks[u] != 0 {
+        if flags[u] != 0 {
             return false;
         }
-        if marks[v] != 0 {
+        if flags[v] != 0 {
             return false;
         }
-        marks[u] = 1;
-        marks[v] = 1;
+        flags[u] = 1;
+        flags[v] = 1;
         i += 1;
     }
     true

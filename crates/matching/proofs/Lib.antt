@@ -7,6 +7,7 @@
 --   Marks            marks by largest pairings
 --   Rotations        one rotation of a matching
 --   Rows             stores into a row of partners
+--   Flags            stores into a table of flags
 --   DoubledTable     the doubled table's arcs; it is well formed
 --   OneArcIn         only one arc leads into a node 2k
 --   Augmentation     a regular path of the doubled table is a run of rotations
@@ -24,6 +25,7 @@ pub mod Greatest
 pub mod Marks
 pub mod Rotations
 pub mod Rows
+pub mod Flags
 pub mod DoubledTable
 pub mod OneArcIn
 pub mod Augmentation

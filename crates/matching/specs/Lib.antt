@@ -5,6 +5,7 @@
 --   Matching        pairings as involutions
 --   Rotation        rotation of a matching, and along a path
 --   Row             a pairing as a row of partners
+--   Flags           a table with a flag for each camera
 --   DoubledTable    the doubled table of a matching, a skew-symmetric graph
 --   Certificate     the Gallai-Edmonds decomposition
 pub mod Stock
@@ -13,5 +14,6 @@ pub mod Pairs
 pub mod Matching
 pub mod Rotation
 pub mod Row
+pub mod Flags
 pub mod DoubledTable
 pub mod Certificate

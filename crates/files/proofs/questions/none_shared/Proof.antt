@@ -12,11 +12,11 @@ use Rattle.files.proofs.questions.none_shared.Tie as tie
 use borrow.Author.Needs.{needs}
 
 abbrev Inv-loop : tie.InvT-loop
-Inv-loop firsts seconds count marks₀ i₀ marks i =
-    (i ≤ count) × (length marks ≡ 256) × (noneShared (pairsOf count firsts seconds) ≡ sharesNone marks (drop i (pairsOf count firsts seconds)))
+Inv-loop firsts seconds count flags₀ i₀ flags i =
+    (i ≤ count) × (length flags ≡ 256) × (noneShared (pairsOf count firsts seconds) ≡ sharesNone flags (drop i (pairsOf count firsts seconds)))
 
 abbrev μ-loop : tie.MeasureT-loop
-μ-loop firsts seconds count marks₀ i₀ marks i = count - i
+μ-loop firsts seconds count flags₀ i₀ flags i = count - i
 
 loop-holds : tie.Need-loop-holds Inv-loop μ-loop
 unfolding all
@@ -42,12 +42,12 @@ returns-2 : tie.Need-returns-2 Inv-loop μ-loop
 returns-2 c =
     sym (c .before .before .before .before .before .loop .inv .2 ∙ shared-second (c .before .before .before .before .before .before .pre) _ _ (c .before .before .before .before .loop-test .taken) (c .if2 .taken))
 
-array-write-marks : tie.Need-array-write-marks Inv-loop μ-loop
-array-write-marks c =
+array-write-flags : tie.Need-array-write-flags Inv-loop μ-loop
+array-write-flags c =
     omega (arith, c .before .before .before .shared-slice-known .given (c .before .before .before .before .before .loop .i))
 
-array-write-marks-2 : tie.Need-array-write-marks-2 Inv-loop μ-loop
-array-write-marks-2 c =
+array-write-flags-2 : tie.Need-array-write-flags-2 Inv-loop μ-loop
+array-write-flags-2 c =
     let v = c .before .before .shared-slice-known2 .given (c .before .before .before .before .before .loop .i) in omega arith
 
 loop-again : tie.Need-loop-again Inv-loop μ-loop
@@ -80,8 +80,8 @@ none-shared-spec =
     returns
     array-read-if2
     returns-2
-    array-write-marks
-    array-write-marks-2
+    array-write-flags
+    array-write-flags-2
     (λ c. search needs)
     (λ c. search needs)
     loop-again
