@@ -3,11 +3,11 @@
 //!   Search                  one search for an augmenting path from an unmatched vertex
 //!   augment                 makes a matching one larger by a path from a root, or tells the vertices that even alternating paths reach
 //!   enlarge                 a maximum matching that covers all that a given matching covers
-//!   standing                greatest number of pairs and marks: a camera is marked 00 if the maximum stays without it
+//!   standing                greatest number of pairs and marks: a camera that fits another is marked 00 if the maximum stays without it
 //! A search keeps, for each vertex, the base of the blossom it lies in; blossoms are contracted by giving all their vertices one base.
 
 use crate::frames::Pair;
-use crate::stock_trial::{marks_by, Standing};
+use crate::stock_trial::{Standing, ISOLATED};
 use std::collections::VecDeque;
 
 pub type Partners = Vec<Option<usize>>;
@@ -183,5 +183,16 @@ pub fn standing(cameras: usize, fits: &[Pair]) -> Standing {
         size(&partner) == size(&largest)
     };
     let left_over: Vec<bool> = (0..cameras).map(stays_without).collect();
-    Standing { greatest: size(&largest), marks: marks_by(&left_over, fits) }
+    Standing { greatest: size(&largest), marks: marks(&lists, &left_over) }
+}
+
+/// By the cameras that each one fits.
+fn marks(lists: &[Vec<usize>], left_over: &[bool]) -> Vec<usize> {
+    let mark = |camera: usize| match &lists[camera][..] {
+        [] => ISOLATED,
+        _ if left_over[camera] => 0,
+        others if others.iter().any(|other| left_over[*other]) => 1,
+        _ => 2,
+    };
+    (0..lists.len()).map(mark).collect()
 }

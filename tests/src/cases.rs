@@ -1,6 +1,6 @@
 //! Document 01's examples, edges and traps, each with what the document says of it, and the points that it leaves to the reader.
 //!   graph_examples, stock_examples    G1 to G5, S1 to S7
-//!   examples_folder                   the files of examples/ are these, and their answers are right
+//!   examples_folder                   the files of examples/ are these and those of known.rs with isolated cameras, and their answers are right
 //!   tallies                           calls in a row, with counts at and near 4,294,967,295
 //!   edges                             sizes at which a question changes its answer, and the buffer's
 //!   traps                             document 01's traps
@@ -15,7 +15,7 @@ use crate::frames::{barrier_file, file, graph_file, pair_lines, path_file, plan_
 use crate::generate::all_fits;
 use crate::graph_trial;
 use crate::judge::{shown, Call, Judge, Trial, LEAST_ROOM};
-use crate::known::{graph, graphs, stock, stocks, KnownGraph, KnownStock, G3, G4, G5, S7};
+use crate::known::{graph, graphs, isolated_examples, stock, stocks, KnownGraph, KnownStock, G3, G4, G5, S7};
 use crate::line_ends::cr_lf;
 use crate::prints::verdict_line;
 use crate::stock_trial;
@@ -240,7 +240,7 @@ pub fn examples_folder(judge: &mut Judge) -> Trial {
         example_is(&format!("{name}.graph"), &[graph.file()])?;
         example_is(&format!("{name}.answer"), &answers)?;
     }
-    for KnownStock { name, stock, sheet, plans } in stocks() {
+    for KnownStock { name, stock, sheet, plans } in stocks().into_iter().chain(isolated_examples()) {
         example_is(&format!("{name}.stock"), &[stock.file()])?;
         example_is(&format!("{name}.sheet"), &[sheet])?;
         example_is(&format!("{name}.plan"), &plans)?;

@@ -1,6 +1,7 @@
 //! Everything of a size.
 //!   all_graphs      every graph of one or two mate pairs and up to three pairs of arcs, from every source
 //!   all_stocks      every stock of up to five cameras, with every pairing lit
+//!   every_fits      every set of fits among some cameras
 //!   all_classes     every table of classes up to 04 for random graphs of one or two mate pairs; of three those that agree with mates
 //!   all_runs        every run of up to three arcs, for random small graphs
 //!   all_texts       every text of up to six digits, frame kinds and bytes of line ends
@@ -11,7 +12,7 @@ use crate::frames::{barrier_file, path_file, Pair};
 use crate::generate::{all_fits, random_graph};
 use crate::graph_trial::{self, is_barrier, mate, Graph};
 use crate::judge::{shown, Judge, Trial};
-use crate::stock_trial::{each_pairing, Stock};
+use crate::stock_trial::{all_pairings, Stock};
 
 pub fn all_graphs(judge: &mut Judge) -> Trial {
     let sources = [1, 2].into_iter().flat_map(|pairs| (0..2 * pairs).map(move |source| (pairs, source)));
@@ -38,14 +39,17 @@ fn try_graphs(judge: &mut Judge, graph: &mut Graph, more: usize) -> Trial {
     })
 }
 
+/// Every set of fits among some cameras, in the file's order.
+pub fn every_fits(cameras: usize) -> impl Iterator<Item = Vec<Pair>> {
+    let every = all_fits(cameras);
+    (0..1_usize << every.len())
+        .map(move |set| (0..every.len()).filter(|place| set >> place & 1 == 1).map(|place| every[place]).collect())
+}
+
 pub fn all_stocks(judge: &mut Judge) -> Trial {
     for cameras in 0..=5 {
-        let every = all_fits(cameras);
-        for set in 0..1_usize << every.len() {
-            let fits: Vec<Pair> = (0..every.len()).filter(|place| set >> place & 1 == 1).map(|place| every[place]).collect();
-            let mut pairings = Vec::new();
-            each_pairing(cameras, &fits, &mut |pairs| pairings.push(pairs.to_vec()));
-            for lit in pairings {
+        for fits in every_fits(cameras) {
+            for lit in all_pairings(cameras, &fits) {
                 judge.made_stock(&Stock { cameras, fits: fits.clone(), lit })?;
             }
         }

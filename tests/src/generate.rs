@@ -6,6 +6,8 @@
 //!   shuffled_graph       the same graph under other numbers
 //!   small_stock          up to eight cameras, any fits, any pairing lit
 //!   middling_stock       up to 40 cameras
+//!   stock_with_isolated  up to twelve cameras, one to four of them put in without a fit
+//!   places_among, placed     a stock's cameras among more, which have no fit and stand before, between or after its own
 //!   stock_of             cameras, fits and lit pairs put in the file's order
 //!   shuffled_stock       the same stock under other numbers
 //!   ear_fits             fits that grow by odd ears from one camera: blossoms inside blossoms
@@ -154,6 +156,44 @@ pub fn middling_stock(random: &mut Random) -> Stock {
     };
     let stock = with_some_lit(random, cameras, &fits);
     shuffled_stock(random, &stock)
+}
+
+/// Among the other cameras are some with one fit, and pairs that fit nobody else; or none of them has a fit.
+pub fn stock_with_isolated(random: &mut Random) -> Stock {
+    let own = random.below(9);
+    let fits: Vec<Pair> = match random.below(10) {
+        0 => Vec::new(),
+        1..=3 => (1..own).step_by(2).map(|camera| (camera - 1, camera)).collect(),
+        4..=6 => (1..own).map(|camera| (random.below(camera), camera)).collect(),
+        _ => some_fits(random, own, 1 + own),
+    };
+    let stock = with_some_lit(random, own, &fits);
+    let more = random.between(1, 4);
+    let places = places_among(random, own, more);
+    placed(&shuffled_stock(random, &stock), own + more, &places)
+}
+
+/// The numbers of a stock's own cameras where more stand in one place, at the front, the end or between, or anywhere; rising.
+pub fn places_among(random: &mut Random, own: usize, more: usize) -> Vec<usize> {
+    let before = match random.below(4) {
+        0 => 0,
+        1 => own,
+        _ => random.below(own + 1),
+    };
+    let mut places: Vec<usize> = (0..before).chain(before + more..own + more).collect();
+    if random.chance(40) {
+        places = (0..own + more).collect();
+        random.shuffle(&mut places);
+        places.truncate(own);
+        places.sort_unstable();
+    }
+    places
+}
+
+/// The stock with its cameras under these numbers, which rise.
+pub fn placed(stock: &Stock, cameras: usize, places: &[usize]) -> Stock {
+    let renamed = |pairs: &[Pair]| -> Vec<Pair> { pairs.iter().map(|(u, v)| (places[*u], places[*v])).collect() };
+    Stock { cameras, fits: renamed(&stock.fits), lit: renamed(&stock.lit) }
 }
 
 /// Ears of an odd number of fits, each between two cameras that are there already, until all cameras are; a last one may stay alone.

@@ -11,7 +11,7 @@ use crate::judge::{Judge, Trial};
 use crate::programs::Programs;
 use crate::random::Random;
 use crate::seen::Seen;
-use crate::{cases, damage, exhaustive, large, line_end_trials, program_trials, self_checks, sizes, trials};
+use crate::{cases, damage, exhaustive, isolated_trials, large, line_end_trials, program_trials, self_checks, sizes, trials};
 use std::panic::{catch_unwind, AssertUnwindSafe};
 
 pub struct Group<T> {
@@ -57,6 +57,7 @@ pub fn of_trial() -> Vec<EngineGroup> {
     vec![
         fixed("lines cut agree with bytes read one by one", self_checks::lines_agree),
         share("all pairings agree with the blossom algorithm", 200, self_checks::pairings_agree),
+        share("marks are document 01's but for isolated cameras", 100, self_checks::marks_agree),
         share("the bound of Tutte and Berge is met", 10, self_checks::bounds_are_met),
         share("all regular paths agree with matchings of arcs", 100, self_checks::paths_agree),
         share("a path to each node reached in larger graphs", 10, self_checks::paths_are_found),
@@ -71,6 +72,11 @@ pub fn of_engine() -> Vec<EngineGroup> {
         fixed("the folder examples/", cases::examples_folder),
         fixed("tallies", cases::tallies),
         fixed("traps", cases::traps),
+        drawn("isolated cameras: known sheets", isolated_trials::known_sheets),
+        fixed("isolated cameras: equal sheets", isolated_trials::equal_sheets),
+        share("isolated cameras: other lit pairs", 10, isolated_trials::other_lit_pairs),
+        share("isolated cameras: one in each place", 10, isolated_trials::one_in_each_place),
+        share("isolated cameras: the last fit taken away", 20, isolated_trials::last_fit_taken),
         fixed("every end of two lines", line_end_trials::ends_of_two_lines),
         drawn("first lines of certificates", line_end_trials::certificate_headers),
         drawn("known files with every choice of line ends", line_end_trials::known_files),
@@ -82,6 +88,7 @@ pub fn of_engine() -> Vec<EngineGroup> {
         fixed("edges", cases::edges),
         fixed("points left to the reader", cases::points_left_to_the_reader),
         drawn("60,000 bytes with CR LF", line_end_trials::lengths),
+        drawn("isolated cameras beside 3,900 fits", isolated_trials::three_apart),
         share("certificates", 100, trials::certificates),
         fixed("certificates damaged at every byte", damage::damaged_certificates),
         fixed("files damaged at every byte", damage::damaged_files),
@@ -94,11 +101,13 @@ pub fn of_engine() -> Vec<EngineGroup> {
         share("random frames", 60, damage::random_frames),
         share("small graphs", 280, trials::small_graphs),
         share("small stocks", 220, trials::small_stocks),
+        share("isolated cameras: random stocks", 80, isolated_trials::random_stocks),
         share("doubled tables", 60, trials::doubled_tables),
         share("middling graphs", 40, trials::middling_graphs),
         share("middling stocks", 20, trials::middling_stocks),
         fixed("every graph of one or two mate pairs", exhaustive::all_graphs),
         fixed("every stock of up to five cameras", exhaustive::all_stocks),
+        drawn("isolated cameras: every set of them", isolated_trials::every_set),
         drawn("paths and barriers of every size", sizes::graphs),
         drawn("sheets and plans of every size", sizes::stocks),
         drawn("127 parts", large::many_parts),
@@ -107,6 +116,7 @@ pub fn of_engine() -> Vec<EngineGroup> {
         share("128 mate pairs and few arcs", 1, large::sparse_graphs),
         drawn("doubled tables of 127 cameras", large::largest_tables),
         drawn("127 cameras and 3,900 fits", large::dense_stocks),
+        drawn("isolated cameras among 127", isolated_trials::largest_stocks),
         drawn("42 triangles in a row", large::triangles),
         drawn("odd rings", large::odd_rings),
         share("ears of 90 to 127 cameras", 1, large::ears),
@@ -122,6 +132,7 @@ pub fn of_programs() -> Vec<ProgramGroup> {
     vec![
         programs("programs: document 01's examples", false, program_trials::examples),
         programs("programs: files that can't be opened", false, program_trials::unopened_files),
+        programs("programs: isolated cameras", true, program_trials::isolated_cameras),
         programs("programs: every refusal", true, program_trials::refusals),
         programs("programs: long and empty input", false, program_trials::lengths),
         programs("programs: line ends", true, program_trials::line_ends),

@@ -149,6 +149,9 @@ impl<'a> Judge<'a> {
     }
 
     fn stock_owing(&mut self, file: &[u8], truth: &StockTruth) -> Trial {
+        if let StockTruth::Accepted(stock, _) = truth {
+            self.seen.stock(stock);
+        }
         let (room, short) = self.rooms();
         self.lend(Call::Plan, file, room, &plan_owed(truth))?;
         self.lend(Call::Sheet, file, room, &sheet_owed(truth))?;

@@ -1,5 +1,7 @@
-//! Document 01's known graphs and stocks, G1 to G5 and S1 to S7, each with every answer that is right.
-//!   graphs, stocks          them
+//! Document 01's known graphs and stocks, G1 to G5 and S1 to S7, each with every answer that is right, and stocks with isolated cameras.
+//!   graphs, stocks          document 01's
+//!   isolated_stocks         stocks with cameras that have no fit (document 02, L2), each byte of their sheets written out
+//!   isolated_examples       those of them that examples/ has
 //!   graph_files, stock_files    their files
 //!   graph, stock            a graph with source 0, a stock, from their numbers
 //!   G3, G4, G5, S7          arcs and fits that other cases are made of
@@ -49,11 +51,12 @@ pub fn graphs() -> Vec<KnownGraph> {
     ]
 }
 
+fn known(name: &'static str, stock: Stock, sheet: &[u8], plans: &[&[Pair]]) -> KnownStock {
+    let plans = plans.iter().map(|pairs| plan_file(pairs)).collect();
+    KnownStock { name, stock, sheet: sheet.to_vec(), plans }
+}
+
 pub fn stocks() -> Vec<KnownStock> {
-    let known = |name, stock, sheet: &[u8], plans: &[&[Pair]]| {
-        let plans = plans.iter().map(|pairs| plan_file(pairs)).collect();
-        KnownStock { name, stock, sheet: sheet.to_vec(), plans }
-    };
     let triangle = [(0, 1), (0, 2), (1, 2)];
     let star = [(0, 1), (0, 2), (0, 3)];
     let chain = [(0, 1), (1, 2), (2, 3)];
@@ -67,6 +70,99 @@ pub fn stocks() -> Vec<KnownStock> {
         known("S5", stock(4, &chain, &[(1, 2)]), &sheet_file(2, &[2; 4]), &[&[(0, 1), (2, 3)]]),
         known("S6", stock(5, &ring, &[]), &sheet_file(2, &[0; 5]), &of_ring),
         known("S7", stock(6, &S7, &[]), &sheet_file(3, &[2; 6]), &[&[(0, 1), (2, 3), (4, 5)]]),
+    ]
+}
+
+pub fn isolated_stocks() -> Vec<KnownStock> {
+    let mut all = isolated_examples();
+    all.extend(few_cameras());
+    all.extend(four_marks());
+    all.extend(largest_stocks());
+    all
+}
+
+/// Under their names in the folder.
+pub fn isolated_examples() -> Vec<KnownStock> {
+    vec![
+        known("isolated_alone", stock(1, &[], &[]), b"4100\n430003\n4F0001\n", &[&[]]),
+        known("isolated_third", stock(3, &[(0, 1)], &[]), b"4101\n430002\n430102\n430203\n4F0003\n", &[&[(0, 1)]]),
+        known(
+            "four_marks",
+            stock(8, &[(1, 2), (1, 3), (1, 4), (5, 6)], &[(1, 2)]),
+            b"4102\n430003\n430101\n430200\n430300\n430400\n430502\n430602\n430703\n4F0008\n",
+            &[&[(1, 2), (5, 6)]],
+        ),
+    ]
+}
+
+fn few_cameras() -> Vec<KnownStock> {
+    let triangle = [(0, 1), (0, 2), (1, 2)];
+    let ring = [(0, 1), (0, 6), (1, 3), (3, 4), (4, 6)];
+    let of_ring: [&[Pair]; 5] = [&[(0, 1), (3, 4)], &[(0, 1), (4, 6)], &[(0, 6), (1, 3)], &[(0, 6), (3, 4)], &[(1, 3), (4, 6)]];
+    vec![
+        known("two cameras, and no fit", stock(2, &[], &[]), b"4100\n430003\n430103\n4F0002\n", &[&[]]),
+        known("fit 0-2 of three", stock(3, &[(0, 2)], &[]), b"4101\n430002\n430103\n430202\n4F0003\n", &[&[(0, 2)]]),
+        known("fit 1-2 of three, lit", stock(3, &[(1, 2)], &[(1, 2)]), b"4101\n430003\n430102\n430202\n4F0003\n", &[&[(1, 2)]]),
+        known(
+            "S3 with 0-2 lit, and one camera more",
+            stock(4, &triangle, &[(0, 2)]),
+            b"4101\n430000\n430100\n430200\n430303\n4F0004\n",
+            &[&[(0, 2)]],
+        ),
+        known(
+            "S4 without its last fit",
+            stock(4, &[(0, 1), (0, 2)], &[]),
+            b"4101\n430001\n430100\n430200\n430303\n4F0004\n",
+            &[&[(0, 1)], &[(0, 2)]],
+        ),
+        known(
+            "S5 around two cameras more",
+            stock(6, &[(1, 2), (2, 4), (4, 5)], &[(2, 4)]),
+            b"4102\n430003\n430102\n430202\n430303\n430402\n430502\n4F0006\n",
+            &[&[(1, 2), (4, 5)]],
+        ),
+        known(
+            "S6 around two cameras more",
+            stock(7, &ring, &[]),
+            b"4102\n430000\n430100\n430203\n430300\n430400\n430503\n430600\n4F0007\n",
+            &of_ring,
+        ),
+    ]
+}
+
+/// Camera 1 fits 2 and 3, of which 3 is lit with it; the first camera, one in the middle and the last have no fit.
+fn four_marks() -> Vec<KnownStock> {
+    vec![
+        known(
+            "all four marks, one pair gained",
+            stock(8, &[(1, 2), (1, 3), (5, 6)], &[(1, 3)]),
+            b"4102\n430003\n430101\n430200\n430300\n430403\n430502\n430602\n430703\n4F0008\n",
+            &[&[(1, 3), (5, 6)]],
+        ),
+        // a chain 4, 6, 7, 8 with its middle lit
+        known(
+            "all four marks, a lit pair swapped for two",
+            stock(10, &[(1, 2), (1, 3), (4, 6), (6, 7), (7, 8)], &[(1, 3), (6, 7)]),
+            b"4103\n430003\n430101\n430200\n430300\n430402\n430503\n430602\n430702\n430802\n430903\n4F000A\n",
+            &[&[(1, 3), (4, 6), (7, 8)]],
+        ),
+    ]
+}
+
+/// 127 cameras with one fit at most.
+fn largest_stocks() -> Vec<KnownStock> {
+    let marked_03 = |cameras: std::ops::Range<usize>| -> String { cameras.map(|camera| format!("43{camera:02X}03\n")).collect() };
+    let none = format!("4100\n{}4F007F\n", marked_03(0..127));
+    let first = format!("4101\n430002\n430102\n{}4F007F\n", marked_03(2..127));
+    let middle = format!("4101\n{}433F02\n434002\n{}4F007F\n", marked_03(0..63), marked_03(65..127));
+    let last = format!("4101\n{}437D02\n437E02\n4F007F\n", marked_03(0..125));
+    let ends = format!("4101\n430002\n{}437E02\n4F007F\n", marked_03(1..126));
+    vec![
+        known("127 cameras, and no fit", stock(127, &[], &[]), none.as_bytes(), &[&[]]),
+        known("fit 0-1 of 127", stock(127, &[(0, 1)], &[]), first.as_bytes(), &[&[(0, 1)]]),
+        known("fit 63-64 of 127, lit", stock(127, &[(63, 64)], &[(63, 64)]), middle.as_bytes(), &[&[(63, 64)]]),
+        known("fit 125-126 of 127", stock(127, &[(125, 126)], &[]), last.as_bytes(), &[&[(125, 126)]]),
+        known("fit 0-126 of 127", stock(127, &[(0, 126)], &[]), ends.as_bytes(), &[&[(0, 126)]]),
     ]
 }
 

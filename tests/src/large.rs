@@ -18,7 +18,7 @@ use crate::graph_trial::Graph;
 use crate::judge::{shown, Judge, Trial};
 use crate::random::Random;
 use crate::shapes::{chain, entries, parts, row, triangles_in_a_row, turns, with_mates, Known};
-use crate::stock_trial::{Standing, Stock};
+use crate::stock_trial::{Standing, Stock, ISOLATED};
 
 // ---- graphs
 
@@ -122,7 +122,7 @@ pub fn dense_stocks(judge: &mut Judge) -> Trial {
     let lit: Vec<Pair> = (0..29).map(|u| (u, 30 + u)).collect();
     let marks = (0..127).map(|camera| usize::from(camera < 30)).collect();
     try_stock(judge, &stock_of(127, &fits, &lit), Some(Standing { greatest: 30, marks }))?;
-    try_stock(judge, &stock_of(127, &[], &[]), Some(Standing { greatest: 0, marks: vec![0; 127] }))
+    try_stock(judge, &stock_of(127, &[], &[]), Some(Standing { greatest: 0, marks: vec![ISOLATED; 127] }))
 }
 
 pub fn triangles(judge: &mut Judge) -> Trial {

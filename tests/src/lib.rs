@@ -11,11 +11,12 @@
 //!   reference        an engine made of the trial's parts
 //!   wrong, slips     engines with one part wrong
 //!   wrong_line_ends  engines that take line ends wrongly
+//!   wrong_isolated   engines that mark cameras without a fit wrongly
 //!   judge            a call judged whole: result, buffer, tally
 //!   seen             what was tried, counted
 //!   generate         random graphs and stocks
 //!   faults           files that fail chosen questions
-//!   known            document 01's known graphs and stocks
+//!   known            document 01's known graphs and stocks, and stocks with isolated cameras
 //!   cases            document 01's examples, edges and traps
 //!   exhaustive       every graph, stock and certificate of a small size
 //!   trials           random graphs, stocks, certificates and faults
@@ -24,6 +25,7 @@
 //!   sizes            answers of every size
 //!   large            the largest files
 //!   line_end_trials  line ends: every choice, wrong ones, damaged ones, and lengths
+//!   isolated_trials  cameras without a fit: known sheets, sheets compared, every set of them
 //!   prints           what the programs print
 //!   programs         the programs, run and judged
 //!   stand_in         this binary in a program's place
@@ -45,6 +47,7 @@ pub mod frames;
 pub mod generate;
 pub mod graph_trial;
 pub mod groups;
+pub mod isolated_trials;
 pub mod judge;
 pub mod known;
 pub mod large;
@@ -67,5 +70,6 @@ pub mod summary;
 pub mod trials;
 pub mod truth;
 pub mod wrong;
+pub mod wrong_isolated;
 pub mod wrong_line_ends;
 pub mod wrong_programs;

@@ -1,5 +1,6 @@
 //! What is tried with the programs.
 //!   examples            document 01's known graphs and stocks, and its certificates
+//!   isolated_cameras    the known stocks with isolated cameras, and random ones, with all line ends
 //!   unopened_files      a file that can't be opened counts as empty
 //!   refusals            every question as the first failing one, of every file of every program, with all line ends
 //!   line_ends           document 01's examples with all line ends, and files with ends that are none
@@ -18,9 +19,9 @@ use crate::damage::{BYTES, DIGITS};
 use crate::engine::Verdict;
 use crate::faults::{failing, graph_for_certificates, questions, Kind, KINDS};
 use crate::frames::{file, path_file, plan_file, sheet_file, stock_file, CR, GREATEST_FILE};
-use crate::generate::{all_fits, middling_graph, middling_stock, nearly_largest_lit, some_fits, stock_of};
+use crate::generate::{all_fits, middling_graph, middling_stock, nearly_largest_lit, some_fits, stock_of, stock_with_isolated};
 use crate::judge::{shown, Trial};
-use crate::known::{graph, graphs, stocks, G4, G5};
+use crate::known::{graph, graphs, isolated_stocks, stocks, G4, G5};
 use crate::large::dense_graph;
 use crate::line_ends::{all_ways, cr_lf, replaced, to_length, CR_LF};
 use crate::prints::{refusal_line, verdict_line};
@@ -49,6 +50,20 @@ pub fn examples(programs: &Programs, _: &mut Random) -> Trial {
     let (g4, g5) = (graph(2, &G4).file(), graph(2, &G5).file());
     owed(&programs.check(&g4, &path_file(&[0, 2, 1]))?, verdict_line(Verdict::No))?;
     owed(&programs.check(&g5, &path_file(&[0, 2, 5]))?, verdict_line(Verdict::Yes))
+}
+
+pub fn isolated_cameras(programs: &Programs, random: &mut Random) -> Trial {
+    for known in isolated_stocks() {
+        for file in all_ways(random, &known.stock.file()) {
+            let [plan, sheet] = programs.stock(&file)?;
+            one_of(known.name, &plan, &known.plans)?;
+            one_of(known.name, &sheet, std::slice::from_ref(&known.sheet))?;
+        }
+    }
+    (0..10).try_for_each(|_| {
+        let stock = stock_with_isolated(random).file();
+        all_ways(random, &stock).iter().try_for_each(|stock| programs.stock(stock).map(drop))
+    })
 }
 
 pub fn unopened_files(programs: &Programs, _: &mut Random) -> Trial {

@@ -1,6 +1,7 @@
 //! The trial against itself; no engine is called.
 //!   lines_agree              lines cut at line feeds and bytes read one by one, on every short text
 //!   pairings_agree           all pairings and the blossom algorithm, on small stocks
+//!   marks_agree              document 01's marks, but 03 for the cameras that no largest pairing has, which are those without a fit
 //!   bounds_are_met           on larger stocks: a pairing of the greatest number, and the bound of Tutte and Berge that no pairing exceeds
 //!   paths_agree              all regular paths and matchings of arcs, on small graphs
 //!   paths_are_found          on larger graphs: a regular path to each reachable node; without one to the source's mate, a barrier
@@ -12,10 +13,11 @@ use crate::exhaustive::texts;
 use crate::frames::{Pair, Text, CR, GRAPH, LF};
 use crate::generate::{
     doubled_table, ear_fits, middling_graph, middling_stock, shuffled_graph, small_graph, small_stock, stock_of,
+    stock_with_isolated,
 };
 use crate::graph_trial::{self, canonical, is_barrier, least_of_parts, mate, regular_end, Graph};
 use crate::judge::{shown, Judge, Trial};
-use crate::stock_trial::{self, is_plan, Stock};
+use crate::stock_trial::{self, all_pairings, includes, is_plan, Stock, ISOLATED};
 
 fn compare(judge: &mut Judge, agree: bool, what: &str, file: &[u8]) -> Trial {
     judge.seen.compared += 1;
@@ -48,10 +50,46 @@ pub fn lines_agree(judge: &mut Judge) -> Trial {
 }
 
 pub fn pairings_agree(judge: &mut Judge, files: usize) -> Trial {
-    (0..files).try_for_each(|_| {
-        let stock = small_stock(&mut judge.random);
+    (0..files).try_for_each(|number| {
+        let random = &mut judge.random;
+        let stock = if number % 3 == 0 { stock_with_isolated(random) } else { small_stock(random) };
         let agree = blossom::standing(stock.cameras, &stock.fits) == stock_trial::standing(stock.cameras, &stock.fits);
         compare(judge, agree, "all pairings and the blossom algorithm differ", &stock.file())
+    })
+}
+
+/// Every largest pairing.
+fn largest_pairings(stock: &Stock) -> Vec<Vec<Pair>> {
+    let mut all = all_pairings(stock.cameras, &stock.fits);
+    let greatest = all.iter().map(Vec::len).max().unwrap_or(0);
+    all.retain(|pairs| pairs.len() == greatest);
+    all
+}
+
+/// Document 01's marks, from before L2: 00 for every camera that some largest pairing leaves over.
+fn marks_before(stock: &Stock, largest: &[Vec<Pair>]) -> Vec<usize> {
+    let left_over = |camera: usize| largest.iter().any(|pairs| !includes(pairs, camera));
+    let fits = |one: usize, other: usize| stock.fits.contains(&(one.min(other), one.max(other)));
+    let mark = |camera: usize| match left_over(camera) {
+        true => 0,
+        false if (0..stock.cameras).any(|other| fits(camera, other) && left_over(other)) => 1,
+        false => 2,
+    };
+    (0..stock.cameras).map(mark).collect()
+}
+
+pub fn marks_agree(judge: &mut Judge, files: usize) -> Trial {
+    (0..files).try_for_each(|number| {
+        let random = &mut judge.random;
+        let stock = if number % 2 == 0 { stock_with_isolated(random) } else { small_stock(random) };
+        let largest = largest_pairings(&stock);
+        let marks = stock_trial::standing(stock.cameras, &stock.fits).marks;
+        let before = marks_before(&stock, &largest);
+        let agree = (0..stock.cameras).all(|camera| match largest.iter().any(|pairs| includes(pairs, camera)) {
+            true => marks[camera] == before[camera] && includes(&stock.fits, camera),
+            false => marks[camera] == ISOLATED && before[camera] == 0 && !includes(&stock.fits, camera),
+        });
+        compare(judge, agree, "the marks are not document 01's, or an isolated camera is told otherwise", &stock.file())
     })
 }
 

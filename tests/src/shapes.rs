@@ -16,7 +16,7 @@ use crate::frames::{barrier_file, kind_of, path_file, Form, Pair, Text, BARRIER,
 use crate::generate::stock_of;
 use crate::graph_trial::{check, mate, read_certificate, Certificate, Graph, A, A_MATES, FIRST_X, M};
 use crate::judge::shown;
-use crate::stock_trial::{Standing, Stock};
+use crate::stock_trial::{Standing, Stock, ISOLATED};
 
 /// What a graph is known to get, from how it is made.
 pub enum Known {
@@ -133,10 +133,10 @@ pub fn row(cameras: usize, in_row: usize) -> (Stock, Standing) {
     let fits: Vec<Pair> = (1..in_row).map(|camera| (camera - 1, camera)).collect();
     let greatest = in_row / 2;
     let lit: Vec<Pair> = (1..greatest).map(|pair| (2 * pair - 1, 2 * pair)).collect();
-    // of an odd row, any camera other than the second, the fourth and so on may be left over
-    let mark = |camera: usize| match (camera < in_row, in_row % 2) {
-        (false, _) => 0,
-        (true, 0) => 2,
+    // of an odd row, any camera other than the second, the fourth and so on may be left over; a row of one is no row
+    let mark = |camera: usize| match (camera < in_row, in_row) {
+        (false, _) | (_, 1) => ISOLATED,
+        (true, number) if number % 2 == 0 => 2,
         (true, _) => camera % 2,
     };
     (stock_of(cameras, &fits, &lit), Standing { greatest, marks: (0..cameras).map(mark).collect() })

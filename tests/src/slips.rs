@@ -37,8 +37,8 @@ pub fn of_calls() -> Vec<Named> {
             "a plan with the larger camera first",
             Parts { plan: |stock| reference::plan(stock).iter().map(|(u, v)| (*v, *u)).collect(), ..right() },
         ),
-        named("mark 01 given before mark 00", Parts { standing: mark_01_first, ..right() }),
-        named("mark 02 never given", Parts { standing: mark_02_never, ..right() }),
+        named("mark 01 given before mark 00", Parts { standing: Box::new(mark_01_first), ..right() }),
+        named("mark 02 never given", Parts { standing: Box::new(mark_02_never), ..right() }),
         named("parts numbered from the last", Parts { answer: parts_from_last, ..right() }),
         named("the last arc left out of the path", Parts { answer: path_too_short, ..right() }),
     ]
@@ -75,7 +75,7 @@ fn mark_01_first(stock: &Stock) -> Standing {
 
 fn mark_02_never(stock: &Stock) -> Standing {
     let standing = reference::standing(stock);
-    Standing { marks: standing.marks.iter().map(|mark| (*mark).min(1)).collect(), ..standing }
+    Standing { marks: standing.marks.iter().map(|mark| if *mark == 2 { 1 } else { *mark }).collect(), ..standing }
 }
 
 fn parts_from_last(graph: &Graph) -> GraphAnswer {

@@ -1,10 +1,11 @@
-//! Stocks by trial (document 01, "Stocks", "Questions put to a call").
-//!   Stock                 number of cameras, fits, lit pairs
+//! Stocks by trial (document 01, "Stocks", "Questions put to a call"; document 02, L2).
+//!   Stock                 number of cameras, fits, lit pairs; which cameras are isolated
 //!   ask, read             one question put to a stock file; all in order
-//!   each_pairing          every pairing of the fits, once
+//!   each_pairing, all_pairings    every pairing of the fits, once
 //!   Standing              greatest number of pairs and every camera's mark
 //!   standing              it, by all pairings
-//!   marks_by              marks, by which cameras some largest pairing leaves over
+//!   ISOLATED              the mark of a camera without a fit
+//!   marks_by              marks, by the fits and by which cameras some largest pairing leaves over
 //!   is_plan               pairs are a plan of the stock
 
 use crate::frames::{first_no, number, stock_file, Pair, Text, STOCK};
@@ -19,6 +20,11 @@ pub struct Stock {
 impl Stock {
     pub fn file(&self) -> Vec<u8> {
         stock_file(self.cameras, &self.fits, &self.lit)
+    }
+
+    /// The cameras that have no fit, rising.
+    pub fn isolated(&self) -> Vec<usize> {
+        (0..self.cameras).filter(|camera| !includes(&self.fits, *camera)).collect()
     }
 }
 
@@ -43,7 +49,7 @@ fn no_camera_twice(pairs: &[Pair]) -> bool {
     cameras.len() == all
 }
 
-fn includes(pairs: &[Pair], camera: usize) -> bool {
+pub fn includes(pairs: &[Pair], camera: usize) -> bool {
     pairs.iter().any(|(first, second)| *first == camera || *second == camera)
 }
 
@@ -83,6 +89,13 @@ pub fn each_pairing(cameras: usize, fits: &[Pair], visit: &mut dyn FnMut(&[Pair]
     extend_pairing(cameras, fits, 0, &mut Vec::new(), visit);
 }
 
+/// Every pairing of the fits, once. For small stocks.
+pub fn all_pairings(cameras: usize, fits: &[Pair]) -> Vec<Vec<Pair>> {
+    let mut all = Vec::new();
+    each_pairing(cameras, fits, &mut |pairs| all.push(pairs.to_vec()));
+    all
+}
+
 /// The camera is left over, or paired with a later one that is free: both ways, then the cameras after it.
 fn extend_pairing(cameras: usize, fits: &[Pair], camera: usize, pairs: &mut Vec<Pair>, visit: &mut dyn FnMut(&[Pair])) {
     if camera == cameras {
@@ -107,6 +120,8 @@ pub struct Standing {
     pub marks: Vec<usize>,
 }
 
+pub const ISOLATED: usize = 3;
+
 /// By all pairings of the fits.
 pub fn standing(cameras: usize, fits: &[Pair]) -> Standing {
     let mut greatest = 0;
@@ -122,14 +137,16 @@ pub fn standing(cameras: usize, fits: &[Pair]) -> Standing {
     Standing { greatest, marks: marks_by(&left_over, fits) }
 }
 
+/// A camera is isolated by the fits alone; the other marks are document 01's.
 pub fn marks_by(left_over: &[bool], fits: &[Pair]) -> Vec<usize> {
     let fits_left_over = |camera: usize| {
         fits.iter().any(|(first, second)| (*first == camera && left_over[*second]) || (*second == camera && left_over[*first]))
     };
-    let mark = |camera: usize| match (left_over[camera], fits_left_over(camera)) {
-        (true, _) => 0,
-        (false, true) => 1,
-        (false, false) => 2,
+    let mark = |camera: usize| match (includes(fits, camera), left_over[camera], fits_left_over(camera)) {
+        (false, _, _) => ISOLATED,
+        (true, true, _) => 0,
+        (true, false, true) => 1,
+        (true, false, false) => 2,
     };
     (0..left_over.len()).map(mark).collect()
 }

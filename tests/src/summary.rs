@@ -57,13 +57,16 @@ impl Summary<'_> {
         }
     }
 
-    /// Every kind of answer and every refusal was met, in files with CR LF too.
+    /// Every kind of answer and every refusal was met, in files with CR LF too, and isolated cameras in every place.
     fn try_coverage(&mut self) {
         let kinds = ["every kind of answer and every refusal was met", "the same on files with CR LF"];
         for (name, missing) in kinds.into_iter().zip(self.seen.never_met()) {
             let outcome = if missing.is_empty() { Ok(String::new()) } else { Err(format!("never met: {missing:?}")) };
             self.tell(name, outcome);
         }
+        let rare = self.seen.too_rare();
+        let outcome = if rare.is_empty() { Ok(String::new()) } else { Err(format!("too rare: {rare:?}")) };
+        self.tell("isolated cameras were met in every place, and often", outcome);
     }
 
     fn try_wrong_engines(&mut self) {

@@ -1,7 +1,8 @@
 //! Engines with one part wrong. The tests must fail on each of them.
 //!   engines     every wrong engine with what is wrong of it
 //!   Named       what is wrong, and the engine
-//! First those that document 01 shuts out, then its traps, then slips of other kinds (slips.rs), then those in line ends (wrong_line_ends.rs).
+//! First those that document 01 shuts out, then its traps, then slips of other kinds (slips.rs), then those in line ends (wrong_line_ends.rs)
+//! and in the marks of cameras without a fit (wrong_isolated.rs).
 
 use crate::blossom::{augment, neighbours, pairs, partners, Partners};
 use crate::frames::Pair;
@@ -9,7 +10,7 @@ use crate::graph_trial::{canonical, is_barrier, is_wanted, mate, Certificate, Gr
 use crate::reference::{self, GraphAnswer, Parts};
 use crate::slips;
 use crate::stock_trial::{self, Standing, Stock};
-use crate::wrong_line_ends;
+use crate::{wrong_isolated, wrong_line_ends};
 use std::collections::VecDeque;
 
 pub type Named = (String, Parts);
@@ -21,6 +22,7 @@ pub fn engines() -> Vec<Named> {
     all.extend(slips::of_check());
     all.extend(slips::of_questions());
     all.extend(wrong_line_ends::engines());
+    all.extend(wrong_isolated::engines());
     all
 }
 
@@ -37,8 +39,8 @@ fn shut_out() -> Vec<Named> {
         named("the lit pairs handed back", Parts { plan: |stock| stock.lit.clone(), ..right() }),
         named("a barrier stated without searching", Parts { answer: unsearched, ..right() }),
         named("a check that always says yes", Parts { holds: |_, _| true, ..right() }),
-        named("an invented pair number", Parts { standing: invented_number, ..right() }),
-        named("one mark for all cameras", Parts { standing: one_mark, ..right() }),
+        named("an invented pair number", Parts { standing: Box::new(invented_number), ..right() }),
+        named("one mark for all cameras", Parts { standing: Box::new(one_mark), ..right() }),
         named(
             "a refusal for every file",
             Parts { read_graph: Box::new(|_| Err(3)), read_stock: Box::new(|_| Err(3)), ..right() },
@@ -82,7 +84,7 @@ fn traps() -> Vec<Named> {
         named("mates told by their ends, in the check", Parts { holds: mates_by_ends, ..right() }),
         named("mates told by their ends, in the search", Parts { answer: without_parallels, ..right() }),
         named("each bud given its own class", Parts { answer: buds_apart, ..right() }),
-        named("left over read as unlit in the plan at hand", Parts { standing: left_over_in_plan, ..right() }),
+        named("left over read as unlit in the plan at hand", Parts { standing: Box::new(left_over_in_plan), ..right() }),
     ]
 }
 

@@ -22,13 +22,14 @@ const ANSWERING: [&str; 3] = [GRAPH_PROGRAM, PLAN_PROGRAM, SHEET_PROGRAM];
 type Slip = (&'static str, fn(Manner) -> Manner);
 
 pub fn all() -> Vec<WrongProgram> {
-    let lists: [(&[&'static str], &[Slip]); 8] = [
+    let lists: [(&[&'static str], &[Slip]); 9] = [
         (&EACH, &READING),
         (&EACH, &PRINTING),
         (&ANSWERING, &ANSWERS),
         (&[GRAPH_PROGRAM], &[("cuts answers at 1,024 bytes", cut::<1_024>), ("cuts answers at 1,800 bytes", cut::<1_800>)]),
         (&[PLAN_PROGRAM], &[("cuts answers at 448 bytes", cut::<448>)]),
         (&[SHEET_PROGRAM], &[("cuts answers at 896 bytes", cut::<896>)]),
+        (&[SHEET_PROGRAM], &OF_MARKS),
         (&[CHECK_PROGRAM], &OF_CHECK),
         (&[CHECK_PROGRAM], &UNOPENED),
     ];
@@ -158,6 +159,32 @@ fn lines(text: &[u8]) -> usize {
 
 fn cut<const MOST: usize>(right: Manner) -> Manner {
     Manner { print: |text| text.into_iter().take(MOST).collect(), ..right }
+}
+
+// ---- marks
+
+const OF_MARKS: [Slip; 5] = [
+    ("prints 00 for mark 03", |right| Manner { print: |text| marked(&text, b"03\n", b"00\n"), ..right }),
+    ("prints 01 for mark 03", |right| Manner { print: |text| marked(&text, b"03\n", b"01\n"), ..right }),
+    ("prints 02 for mark 03", |right| Manner { print: |text| marked(&text, b"03\n", b"02\n"), ..right }),
+    ("prints 03 for mark 00", |right| Manner { print: |text| marked(&text, b"00\n", b"03\n"), ..right }),
+    ("prints no line for mark 03", |right| Manner { print: without_isolated, ..right }),
+];
+
+const MARK_KIND: &[u8] = b"43";
+
+/// The lines of a sheet that have a mark, with another one.
+fn marked(text: &[u8], mark: &[u8], other: &[u8]) -> Vec<u8> {
+    let line = |line: &[u8]| match line.strip_suffix(mark) {
+        Some(before) if line.starts_with(MARK_KIND) => [before, other].concat(),
+        _ => line.to_vec(),
+    };
+    text.split_inclusive(|byte| *byte == LF).flat_map(line).collect()
+}
+
+fn without_isolated(text: Vec<u8>) -> Vec<u8> {
+    let left_out = |line: &[u8]| line.starts_with(MARK_KIND) && line.ends_with(b"03\n");
+    text.split_inclusive(|byte| *byte == LF).filter(|line| !left_out(line)).flatten().copied().collect()
 }
 
 // ---- the check

@@ -1,6 +1,5 @@
 -- A standing sheet's bytes tell its number of cameras, its greatest number of pairs and every mark.
 --   sheets-alike, alike-sheets    two sheets are the same bytes exactly when cameras, greatest number and marks are
---   mark-low                      a mark is at most 2
 --   sheet-number                  the number in its header is the greatest number of pairs
 --   sheet-line                    camera u's line, 5 + 7 * u bytes from the front, has u and its mark
 use mathlib.Core.Path.{_≡_, refl, sym, ap, subst, _∙_}
@@ -20,7 +19,8 @@ use Rattle.counting.specs.Pairs.{Pair}
 use Rattle.counting.proofs.Booleans.{and-both, and-two, and-three, by-test, true-false}
 use Rattle.counting.proofs.Range.{length-up}
 use Rattle.frames.specs.Frames.{digitOf, hexFrom, hexAt, digitByte, hexBytes, frame4, frame6, frameOf4}
-use Rattle.matching.specs.Stock.{Stock, greatest, leftOver, fitsLeftOver, markOf, marksFrom, marksOf}
+use Rattle.matching.specs.Stock.{Stock, greatest, markOf, marksFrom, marksOf}
+use Rattle.matching.proofs.Marks.{mark-low}
 use Rattle.files.specs.StockFile.{markLines, sheetText, alike}
 
 -- DIGITS
@@ -73,10 +73,6 @@ text-inj a b c d ms ls p q h k e = (
 )
 
 -- MARKS
-pub mark-low : (fs : List Pair) (u : ℕ) → markOf fs u ≤ 2
-mark-low fs u =
-    by-test (leftOver fs u) (λ s. rw s (omega arith)) (λ s. by-test (fitsLeftOver fs u) (λ t. rw (s, t) (omega arith)) (λ t. rw (s, t) (omega arith)))
-
 marks-low : (fs : List Pair) (us : List ℕ) (x : ℕ) → In x (marksFrom fs us) → x < 256
 unfolding marksFrom
 marks-low fs [] x m = absurd m

@@ -1,5 +1,9 @@
--- Document 03's five promises, of files of bytes: each is one of Promises, or a part of it, with a premise more.
+-- Document 03's five promises, of files of bytes: each is one of Promises, or a part of it, with a premise more; the marks are those by pairings alone.
 --   reaches-by-paths, path-or-barrier, greatest-is, marks-are, sheets-tell    demands 2 and 3
+use Rattle.matching.proofs.Marks.{pairing-mark-zero, pairing-mark-one}
+use Rattle.matching.proofs.Promises.{well-formed-fits}
+use Rattle.files.specs.StockFile.{stockIn}
+use Rattle.files.proofs.AcceptedFiles.{accepted-stock}
 use Rattle.lanes.specs.BytePromise.{ReachesByPaths, PathOrBarrier, GreatestIs, MarksAre, SheetsTell}
 use Rattle.lanes.proofs.Promises as promises
 
@@ -13,7 +17,9 @@ pub greatest-is : GreatestIs
 greatest-is f ps b e = promises.greatest-is f ps e
 
 pub marks-are : MarksAre
-marks-are f u b e h = let r = promises.marks-are f u e h in (r .0, r .1)
+marks-are f u b e h =
+    let F = well-formed-fits (stockIn f) (accepted-stock f e) in
+    (pairing-mark-zero (stockIn f .cameras) (stockIn f .fits) F u, pairing-mark-one (stockIn f .cameras) (stockIn f .fits) F u)
 
 pub sheets-tell : SheetsTell
 sheets-tell f g o p b c d e = promises.sheets-tell f g o p d e

@@ -1,17 +1,18 @@
 -- Known graphs and stocks as files (document 01, "Known graphs and stocks"), by computing.
---   known-files    what the questions and the check say of them
---   known-texts    answers byte for byte
---   known-ends     files with either line end
+--   known-files       what the questions and the check say of them
+--   known-texts       answers byte for byte
+--   known-ends        files with either line end
+--   known-isolated    cameras without a fit
 use mathlib.Core.Path.{refl}
 use Rattle.counting.specs.Tests.{all, any, among, noneTwice, upFrom, keep}
 use Rattle.counting.specs.Pairs.{secondsOf}
 use Rattle.frames.specs.Frames.{linesOf, endsWhole, hexFrom, hexBytes, laterFit, bodiesFit, pairsIn, numbersIn}
 use Rattle.frames.specs.EitherEnd.{returnsFrom}
 use Rattle.skew.specs.Graph.{matesFit, nodesAlong, isJoined, noMates, endOf, reachesFrom, largestOf, entriesInto, partOnce, partBy, leastOf, classesFrom}
-use Rattle.matching.specs.Stock.{hasPair, noneShared, withFirst, allPairings, mostOf, marksFrom, pairsRise}
+use Rattle.matching.specs.Stock.{hasPair, noneShared, withFirst, allPairings, mostOf, marksFrom, pairsRise, samePairs}
 use Rattle.files.specs.StockFile.{markLines, planLines}
 use Rattle.files.specs.CertificateFile.{classLines, pathLines, namesInOrder}
-use Rattle.lanes.specs.Known.{KnownFiles, KnownTexts, KnownEnds}
+use Rattle.lanes.specs.Known.{KnownFiles, KnownTexts, KnownEnds, KnownIsolated}
 
 pub known-files : KnownFiles
 unfolding all any among noneTwice upFrom keep nodesAlong isJoined noMates endOf reachesFrom largestOf entriesInto partOnce partBy leastOf classesFrom hasPair noneShared pairsRise linesOf endsWhole hexFrom hexBytes laterFit bodiesFit pairsIn numbersIn matesFit classLines pathLines namesInOrder secondsOf
@@ -24,3 +25,7 @@ known-texts = (refl, refl, refl, refl)
 pub known-ends : KnownEnds
 unfolding all any among noneTwice upFrom keep nodesAlong isJoined noMates endOf reachesFrom largestOf entriesInto partOnce partBy leastOf classesFrom hasPair noneShared pairsRise linesOf endsWhole hexFrom hexBytes laterFit bodiesFit pairsIn numbersIn matesFit classLines pathLines namesInOrder secondsOf returnsFrom
 known-ends = (refl, refl, refl, refl, refl, refl, refl, refl, refl, refl, refl, refl, refl, refl, refl, refl, refl, refl)
+
+pub known-isolated : KnownIsolated
+unfolding all any upFrom hasPair noneShared withFirst allPairings mostOf marksFrom pairsRise samePairs linesOf endsWhole hexFrom hexBytes laterFit bodiesFit pairsIn markLines
+known-isolated = (refl, refl, refl, refl, refl, refl)

@@ -1,34 +1,35 @@
 -- The promises, kept for every file.
 --   reaches-by-paths, path-or-barrier              demand 2
 --   greatest-is, marks-are, sheets-tell            demand 3
+--   one-mark, marks-kept                           and what it says of the marks
 --   sheets-by-fits                                 and what it says of lit pairs
 --   sheet-number-is, sheet-marks-are               and of the number and the marks in a sheet's bytes
+--   same-isolated                                  and of cameras without a fit
 use mathlib.Core.Path.{_≡_, refl, sym, ap, _∙_}
-use mathlib.Core.Logic.{⊎-elim}
-use mathlib.Core.Bool.{true, false}
 use mathlib.Core.List.{List}
 use Prim.Native.Nat.{ℕ, _+_, _<_}
 use native.Mathlib.Omega.{arith}
+use lib.Dec.{eqb}
 use lib.ListN.{length, drop}
 use lib.Seq.{take-append-seam}
 use borrow.Author.Tests.{eq-eqb, eqb-true}
-use Rattle.counting.proofs.Booleans.{and-both, and-two, true-false, same-or}
+use Rattle.counting.proofs.Booleans.{and-both, and-two, and-three}
 use Rattle.frames.specs.Frames.{hexAt}
 use Rattle.frames.proofs.Questions.{or-none}
 use Rattle.skew.specs.Graph.{mate, isRegular}
 use Rattle.skew.proofs.Promise as skew
-use Rattle.matching.specs.Promise.{LeftBySome}
 use Rattle.matching.specs.Stock.{greatest, markOf}
 use Rattle.matching.proofs.Matchings.{list-count}
 use Rattle.matching.proofs.Greatest.{greatest-bound, greatest-pairing}
+use Rattle.matching.proofs.Marks.{mark-low, mark-with-fit, mark-without-fit, same-mark-fit, mark-kept}
 use Rattle.matching.proofs.Promises as matching
 use Rattle.matching.proofs.Promises.{well-formed-fits}
 use Rattle.files.specs.GraphFile.{graphIn}
 use Rattle.files.specs.StockFile.{stockIn, stockFault, sheetText}
 use Rattle.lanes.specs.Entry.{roomFault, sheetFault, sheetOfFile}
-use Rattle.lanes.specs.Promise.{ReachesByPaths, PathOrBarrier, GreatestIs, MarksAre, sheetIn, SheetsTell, SheetsByFits, SheetNumber, SheetMarks, cameraLine}
+use Rattle.lanes.specs.Promise.{ReachesByPaths, PathOrBarrier, GreatestIs, MarksAre, OneMark, MarksKept, sheetIn, SheetsTell, SheetsByFits, SheetNumber, SheetMarks, SameIsolated, cameraLine}
 use Rattle.files.proofs.AcceptedFiles.{accepted-graph, accepted-stock, stock-few}
-use Rattle.files.proofs.SheetBytes.{sheets-alike, alike-sheets, mark-low, sheet-number, sheet-line}
+use Rattle.files.proofs.SheetBytes.{sheets-alike, alike-sheets, sheet-number, sheet-line}
 
 pub reaches-by-paths : ReachesByPaths
 reaches-by-paths f w e = skew.reaches-by-paths (graphIn f) (accepted-graph f e) w
@@ -49,22 +50,23 @@ path-or-barrier f e =
 pub greatest-is : GreatestIs
 greatest-is f ps e = matching.greatest-is (stockIn f) ps (accepted-stock f e)
 
--- a mark is at most 2, so what says when it is 0 and when it is 1 says when it is 2
 pub marks-are : MarksAre
-marks-are f u e h =
+marks-are f u m e h = matching.marks-are (stockIn f) u m (accepted-stock f e) h
+
+pub one-mark : OneMark
+one-mark f u e h =
+    let m = markOf (stockIn f .fits) u in
+    (m, (mark-low (stockIn f .fits) u, marks-are f u m e h .0 refl, λ k r. sym (marks-are f u k e h .1 r)))
+
+pub marks-kept : MarksKept
+marks-kept f u e h =
+    let n = stockIn f .cameras in
     let fs = stockIn f .fits in
-    let r = matching.marks-are (stockIn f) u (accepted-stock f e) h in
-    let low = mark-low fs u in (
-      r .0,
-      r .1,
-      (
-        λ q.
-            let never : LeftBySome fs u → true ≡ false = λ l. absurd (omega (arith, r .0 .1 l)) in
-            (never, λ v. absurd (omega (arith, r .1 .1 (never, v)))),
-        λ n.
-            ⊎-elim (λ z. true-false refl (n .0 (r .0 .0 z)))
-            (λ z. ⊎-elim (λ o. true-false refl (n .1 (r .1 .0 o .1))) (λ o. omega arith) (same-or (markOf fs u) 1)) (same-or (markOf fs u) 0),
-      ),
+    let F = well-formed-fits (stockIn f) (accepted-stock f e) in (
+      mark-with-fit fs u,
+      λ i. mark-without-fit n fs F u i .1,
+      mark-kept n fs F u 1 (omega arith) (omega arith),
+      mark-kept n fs F u 2 (omega arith) (omega arith),
     )
 
 -- THE SHEET'S BYTES
@@ -112,3 +114,13 @@ sheet-marks-are f o u e h =
     let few = stock-few f (stock-none f o e) in
     let r = sheet-line (stockIn f .cameras) u (stockIn f .fits) h (omega arith) in
     (ap (hexAt (cameraLine u + 2) 2) (sheet-in f o e) ∙ r .0, ap (hexAt (cameraLine u + 4) 2) (sheet-in f o e) ∙ r .1)
+
+pub same-isolated : SameIsolated
+same-isolated f g o p u d e q h =
+    let s = stockIn f in
+    let t = stockIn g in
+    let n = and-three (eqb (s .cameras) (t .cameras)) (eqb (greatest (s .fits)) (greatest (t .fits))) _ (sheets-tell f g o p d e .0 .0 q) .0 in
+    let k : u < t .cameras = omega (arith, eqb-true (s .cameras) (t .cameras) n) in
+    let m : markOf (s .fits) u ≡ markOf (t .fits) u =
+    sym (sheet-marks-are f o u d h .1) ∙ ap (hexAt (cameraLine u + 4) 2) q ∙ sheet-marks-are g p u e k .1 in
+    (same-mark-fit (s .fits) (t .fits) u m, same-mark-fit (t .fits) (s .fits) u (sym m))

@@ -1,4 +1,5 @@
--- Five promises as document 03 states them: of files whose elements are bytes. Promise says as much or more under each name, of every file.
+-- Five promises as document 03 states them: of files whose elements are bytes. Promise says as much or more under each name, of every file. Document 03's
+-- markOf is pairingMark here, since document 02's L2 gives cameras without a fit a mark of their own; Promise MarksKept says how they differ.
 --   areBytes           every element is a byte
 --   IsGraphFile        bytes that the questions of a graph file accept
 --   ReachesByPaths, PathOrBarrier, GreatestIs, MarksAre, SheetsTell    demands 2 and 3, of files of bytes
@@ -13,7 +14,7 @@ use Rattle.counting.specs.Pairs.{Pair}
 use Rattle.skew.specs.Graph.{isWanted, isReachable, hasPath, isBarrier, canonical}
 use Rattle.skew.specs.Promise.{SomePath}
 use Rattle.matching.specs.Promise.{LeftBySome, FitsSomeLeft}
-use Rattle.matching.specs.Stock.{isPairing, greatest, markOf, isPlan}
+use Rattle.matching.specs.Stock.{isPairing, greatest, pairingMark, isPlan}
 use Rattle.files.specs.GraphFile.{graphIn, graphFault}
 use Rattle.files.specs.StockFile.{stockIn, stockFault, alike}
 use Rattle.lanes.specs.Entry.{sheetOfFile, sheetFault}
@@ -46,8 +47,8 @@ GreatestIs =
 abbrev pub MarksAre : Type 0
 MarksAre =
     (f : List ℕ) (u : ℕ) → areBytes f ≡ true → stockFault f ≡ 0 → u < stockIn f .cameras →
-    ((markOf (stockIn f .fits) u ≡ 0) ↔ LeftBySome (stockIn f .fits) u) ×
-    ((markOf (stockIn f .fits) u ≡ 1) ↔
+    ((pairingMark (stockIn f .fits) u ≡ 0) ↔ LeftBySome (stockIn f .fits) u) ×
+    ((pairingMark (stockIn f .fits) u ≡ 1) ↔
     ((LeftBySome (stockIn f .fits) u → true ≡ false) × FitsSomeLeft (stockIn f .fits) u))
 
 abbrev pub SheetsTell : Type 0

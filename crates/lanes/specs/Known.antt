@@ -5,20 +5,23 @@
 --   KnownTexts                        G1's answer, the sheets of S1 and S3 and the plan of S5, as the document prints them
 --   header, ending, throughout        G1's two lines without their ends; a file with every line feed after a carriage return
 --   KnownEnds                         files with such ends, answered alike; files whose lines are ended otherwise, refused with 3
+--   fourMarks, fourMarksFile          a stock of eight cameras with every mark, two of them without a fit
+--   KnownIsolated                     the sheets of three stocks with cameras without a fit
 use mathlib.Core.Path.{_≡_}
 use mathlib.Core.Bool.{true}
 use mathlib.Core.List.{List, [], _∷_, _++_}
 use Prim.Native.Nat.{ℕ, suc}
 use lib.Dec.{eqb}
 use lib.ListN.{length, drop}
-use Rattle.formats.specs.Kinds.{arcKind, fitKind, graphEnd, graphKind, litKind, stockEnd, stockKind}
+use Rattle.formats.specs.Kinds.{arcKind, fitKind, graphEnd, graphKind, litKind, markKind, sheetEnd, sheetKind, stockEnd, stockKind}
 use Rattle.frames.specs.Frames.{frame4, frame6, frameOf4}
 use Rattle.frames.specs.EitherEnd.{withReturns}
 use Rattle.skew.specs.Graph.{canonical}
+use Rattle.matching.specs.Stock.{Stock, isPlan}
 use Rattle.files.specs.GraphFile.{graphIn, graphFault}
 use Rattle.files.specs.StockFile.{stockIn, stockFault, planText, sheetText}
 use Rattle.files.specs.CertificateFile.{pathText, barrierText}
-use Rattle.lanes.specs.Entry.{checkPost}
+use Rattle.lanes.specs.Entry.{sheetOfFile, checkPost}
 use Rattle.lanes.specs.Promise.{arc, graphOf, g4, g5}
 use Rattle.lanes.specs.declared.Verdict.the-variants.{Refused, Yes, No}
 
@@ -87,3 +90,26 @@ KnownEnds =
     (graphFault (header ++ (10 ∷ 13 ∷ []) ++ ending ++ (10 ∷ [])) ≡ 3) × (graphFault (g1File ++ (10 ∷ [])) ≡ 3) ×
     (graphFault (g1File ++ (13 ∷ 10 ∷ [])) ≡ 3) × (stockFault (13 ∷ 10 ∷ []) ≡ 3) ×
     (checkPost g1File ((51 ∷ 49 ∷ 13 ∷ []) ++ drop 3 (barrierText (canonical (graphIn g1File)))) ≡ Refused 43)
+
+-- CAMERAS WITHOUT A FIT (document 02, L2)
+-- 1 fits 2, 3 and 4, and 5 fits 6; 1 and 2 are lit; 0 and 7 fit nobody
+abbrev pub fourMarks : Stock
+fourMarks = record { cameras = 8; fits = arc 1 2 ∷ arc 1 3 ∷ arc 1 4 ∷ arc 5 6 ∷ []; lit = arc 1 2 ∷ [] }
+
+abbrev pub fourMarksFile : List ℕ
+fourMarksFile =
+    frame4 stockKind 8 ++ frame6 fitKind 1 2 ++ frame6 fitKind 1 3 ++ frame6 fitKind 1 4 ++ frame6 fitKind 5 6 ++ frame6 litKind 1 2 ++
+    frameOf4 stockEnd 5
+
+-- one camera: 4100, 430003, 4F0001; three with the fit of 0 and 1: 4101, 430002, 430102, 430203, 4F0003; fourMarks
+abbrev pub KnownIsolated : Type 0
+KnownIsolated =
+    (sheetText 1 [] ≡ (52 ∷ 49 ∷ 48 ∷ 48 ∷ 10 ∷ 52 ∷ 51 ∷ 48 ∷ 48 ∷ 48 ∷ 51 ∷ 10 ∷ 52 ∷ 70 ∷ 48 ∷ 48 ∷ 48 ∷ 49 ∷ 10 ∷ [])) ×
+    (sheetText 3 (arc 0 1 ∷ []) ≡
+    (52 ∷ 49 ∷ 48 ∷ 49 ∷ 10 ∷ 52 ∷ 51 ∷ 48 ∷ 48 ∷ 48 ∷ 50 ∷ 10 ∷ 52 ∷ 51 ∷ 48 ∷ 49 ∷ 48 ∷ 50 ∷ 10 ∷ 52 ∷ 51 ∷ 48 ∷ 50 ∷ 48 ∷ 51 ∷ 10 ∷
+    52 ∷ 70 ∷ 48 ∷ 48 ∷ 48 ∷ 51 ∷ 10 ∷ [])) ×
+    (stockFault fourMarksFile ≡ 0) × (stockIn fourMarksFile ≡ fourMarks) ×
+    (sheetOfFile fourMarksFile ≡
+    frame4 sheetKind 2 ++ frame6 markKind 0 3 ++ frame6 markKind 1 1 ++ frame6 markKind 2 0 ++ frame6 markKind 3 0 ++ frame6 markKind 4 0 ++
+    frame6 markKind 5 2 ++ frame6 markKind 6 2 ++ frame6 markKind 7 3 ++ frameOf4 sheetEnd 8) ×
+    (isPlan fourMarks (arc 1 2 ∷ arc 5 6 ∷ []) ≡ true)

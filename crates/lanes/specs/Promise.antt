@@ -1,14 +1,17 @@
 -- What is promised of every graph file and of every two stock files. Each promise is a type; a term of the type is the theorem's proof. The
 -- first five are document 03's (BytePromise has them as it states them), without its premise that a file's elements are bytes; PathOrBarrier also
--- says what hasPath tells, and MarksAre what mark 2 does. SheetsByFits, SheetNumber and SheetMarks are added.
+-- says what hasPath tells, and MarksAre what mark 2 does, and mark 3, which document 02's L2 adds. The others are added.
 --   ReachesByPaths    demand 2: a node is reachable exactly if a regular path from the source ends there
 --   PathOrBarrier     demand 2: a path and a barrier exclude each other, and without a path the canonical one is a barrier; hasPath tells which
 --   GreatestIs        demand 3: the greatest number of pairs, by all pairings of the file's fits; and there is a plan
---   MarksAre          demand 3: the marks 0, 1 and 2, by all largest pairings
+--   MarksAre          demand 3: the marks 0 to 3, by all largest pairings and by the fits (matching/specs/Promise MarkMeans)
+--   OneMark           exactly one of the four holds of a camera
+--   MarksKept         what L2 changed: a camera with a fit has document 03's mark, one without had 0; marks 1 and 2 are as they were
 --   SheetsTell        demand 3: sheets are alike exactly when cameras, greatest number and every mark are; each is the sheet defined
 --   SheetsByFits      demand 3: the same cameras and fits get the same sheet, whichever pairs are lit and whatever stood in the buffers
 --   SheetNumber       demand 3: the number in a sheet's bytes is the length of some pairing of the fits, and none is longer
 --   SheetMarks        demand 3: camera u's line in a sheet's bytes begins at cameraLine u, and has u and its mark
+--   SameIsolated      two sheets of the same bytes are of stocks in which the same cameras have no fit
 --   Marked            G1 to G5 and S1 to S7
 use mathlib.Core.Path.{_≡_}
 use mathlib.Core.Logic.{_↔_}
@@ -20,8 +23,8 @@ use Rattle.counting.specs.Pairs.{Pair, pair}
 use Rattle.frames.specs.Frames.{hexAt}
 use Rattle.skew.specs.Graph.{Graph, isRegular, isWanted, isReachable, hasPath, isBarrier, canonical}
 use Rattle.skew.specs.Promise.{SomePath}
-use Rattle.matching.specs.Promise.{LeftBySome, FitsSomeLeft}
-use Rattle.matching.specs.Stock.{isPairing, greatest, markOf, marksOf, isPlan}
+use Rattle.matching.specs.Promise.{HasFit, MarkMeans}
+use Rattle.matching.specs.Stock.{isPairing, greatest, pairingMark, markOf, marksOf, isPlan}
 use Rattle.files.specs.GraphFile.{graphIn, graphFault}
 use Rattle.files.specs.StockFile.{stockIn, stockFault, alike}
 use Rattle.lanes.specs.Entry.{sheetOfFile, sheetLeaves, sheetFault}
@@ -46,15 +49,24 @@ GreatestIs =
     ((qs : List Pair) × ((isPairing (stockIn f .fits) qs ≡ true) × (length qs ≡ greatest (stockIn f .fits)))) ×
     ((qs : List Pair) × (isPlan (stockIn f) qs ≡ true))
 
--- a mark, by largest pairings
+-- a mark, by largest pairings and by fits
 abbrev pub MarksAre : Type 0
 MarksAre =
+    (f : List ℕ) (u m : ℕ) → stockFault f ≡ 0 → u < stockIn f .cameras →
+    (markOf (stockIn f .fits) u ≡ m) ↔ MarkMeans (stockIn f .fits) u m
+
+abbrev pub OneMark : Type 0
+OneMark =
     (f : List ℕ) (u : ℕ) → stockFault f ≡ 0 → u < stockIn f .cameras →
-    ((markOf (stockIn f .fits) u ≡ 0) ↔ LeftBySome (stockIn f .fits) u) ×
-    ((markOf (stockIn f .fits) u ≡ 1) ↔
-    ((LeftBySome (stockIn f .fits) u → true ≡ false) × FitsSomeLeft (stockIn f .fits) u)) ×
-    ((markOf (stockIn f .fits) u ≡ 2) ↔
-    ((LeftBySome (stockIn f .fits) u → true ≡ false) × (FitsSomeLeft (stockIn f .fits) u → true ≡ false)))
+    (m : ℕ) × ((m ≤ 3) × MarkMeans (stockIn f .fits) u m × ((k : ℕ) → MarkMeans (stockIn f .fits) u k → k ≡ m))
+
+abbrev pub MarksKept : Type 0
+MarksKept =
+    (f : List ℕ) (u : ℕ) → stockFault f ≡ 0 → u < stockIn f .cameras →
+    (HasFit (stockIn f .fits) u → markOf (stockIn f .fits) u ≡ pairingMark (stockIn f .fits) u) ×
+    ((HasFit (stockIn f .fits) u → true ≡ false) → pairingMark (stockIn f .fits) u ≡ 0) ×
+    ((markOf (stockIn f .fits) u ≡ 1) ↔ (pairingMark (stockIn f .fits) u ≡ 1)) ×
+    ((markOf (stockIn f .fits) u ≡ 2) ↔ (pairingMark (stockIn f .fits) u ≡ 2))
 
 -- DEMAND 3: what the call left at the buffer's front
 abbrev pub sheetIn : (file buffer : List ℕ) → List ℕ
@@ -85,6 +97,11 @@ SheetMarks =
     (f o : List ℕ) (u : ℕ) → sheetFault f o ≡ 0 → u < stockIn f .cameras →
     (hexAt (cameraLine u + 2) 2 (sheetIn f o) ≡ u) ×
     (hexAt (cameraLine u + 4) 2 (sheetIn f o) ≡ markOf (stockIn f .fits) u)
+
+abbrev pub SameIsolated : Type 0
+SameIsolated =
+    (f g o p : List ℕ) (u : ℕ) → sheetFault f o ≡ 0 → sheetFault g p ≡ 0 → sheetIn f o ≡ sheetIn g p → u < stockIn f .cameras →
+    HasFit (stockIn f .fits) u ↔ HasFit (stockIn g .fits) u
 
 -- THE MARKED SET
 abbrev pub arc : (tail head : ℕ) → Pair

@@ -1,7 +1,8 @@
--- A matching whose doubled table has no path is largest, and the reachable nodes are the marks: 2k reachable is 00, only 2k+1 is 01, neither is 02.
+-- A matching whose doubled table has no path is largest, and the reachable nodes are the marks of cameras that have a fit: 2k reachable is 00, only
+-- 2k+1 is 01, neither is 02.
 --   no-path-largest, no-path-greatest, no-path-pairs     it leaves over no more than any other; it has the greatest number of pairs
 --   outer-left, left-outer                               outer cameras are those that some largest pairing leaves over
---   no-path-mark, no-path-marks                          a camera's mark; all marks
+--   no-path-mark, no-path-marks                          a camera's mark by pairings alone; all marks
 --   marks-at, marks-length                               marks read off any table of nodes, one for each camera
 use mathlib.Core.Path.{_≡_, refl, ap, _∙_}
 use mathlib.Core.Logic.{inl, inr, ⊎-elim}
@@ -10,15 +11,15 @@ use mathlib.Core.List.{List, [], _∷_}
 use Prim.Native.Nat.{ℕ, zero, suc, _+_, _*_, _≤_, _<_}
 use native.Mathlib.Omega.{arith}
 use lib.ListN.{length, getD}
-use Rattle.counting.specs.Tests.{upFrom, below}
+use Rattle.counting.specs.Tests.{pick, upFrom, below}
 use Rattle.counting.specs.Lists.{In}
 use Rattle.counting.specs.Pairs.{Pair}
 use Rattle.counting.proofs.Booleans.{by-test, true-false}
 use Rattle.counting.proofs.Range.{in-up}
 use Rattle.skew.specs.Graph.{isReachable, hasPath}
-use Rattle.matching.specs.Stock.{greatest, leftOver, fitsLeftOver, markOf, marksFrom, marksOf}
+use Rattle.matching.specs.Stock.{isIncluded, greatest, leftOver, fitsLeftOver, pairingMark, markOf, marksFrom, marksOf}
 use Rattle.matching.specs.Matching.{FitsBelow, Matching, unlit, partner, litFits}
-use Rattle.matching.specs.DoubledTable.{doubledTable, isOuter, isInner, markBy, marksBy}
+use Rattle.matching.specs.DoubledTable.{doubledTable, isOuter, isInner, reachedMark, markBy, marksBy}
 use Rattle.matching.specs.Certificate.{Certificate}
 use Rattle.matching.proofs.Matchings.{fits-back, fits-low, list-matching, list-count, lit-count}
 use Rattle.matching.proofs.Greatest.{greatest-pairing, matching-bound, left-matching, fits-some, some-fits}
@@ -28,16 +29,16 @@ use Rattle.matching.proofs.Groups.{group}
 use Rattle.matching.proofs.Decomposition.{certificate}
 
 -- MARKS READ OFF A TABLE
-pub marks-length : (f : ℕ → Bool) (ks : List ℕ) → length (marksBy f ks) ≡ length ks
+pub marks-length : (h f : ℕ → Bool) (ks : List ℕ) → length (marksBy h f ks) ≡ length ks
 unfolding marksBy
-marks-length f [] = refl
-marks-length f (k ∷ ks) = ap suc (marks-length f ks)
+marks-length h f [] = refl
+marks-length h f (k ∷ ks) = ap suc (marks-length h f ks)
 
-pub marks-at : (f : ℕ → Bool) (a n i : ℕ) → i < n → getD (marksBy f (upFrom a n)) i 0 ≡ markBy f (a + i)
+pub marks-at : (h f : ℕ → Bool) (a n i : ℕ) → i < n → getD (marksBy h f (upFrom a n)) i 0 ≡ markBy h f (a + i)
 unfolding marksBy upFrom
-marks-at f a zero i h = absurd (omega arith)
-marks-at f a (suc n) zero h = ap (markBy f) (omega arith)
-marks-at f a (suc n) (suc i) h = marks-at f (suc a) n i (omega arith) ∙ ap (markBy f) (omega arith)
+marks-at h f a zero i l = absurd (omega arith)
+marks-at h f a (suc n) zero l = ap (markBy h f) (omega arith)
+marks-at h f a (suc n) (suc i) l = marks-at h f (suc a) n i (omega arith) ∙ ap (markBy h f) (omega arith)
 
 module _ (n : ℕ) (fs : List Pair) (F : FitsBelow n fs) where
   module _ (p : ℕ → ℕ) (M : Matching fs p) (no-path : hasPath (doubledTable n fs p) ≡ false) where
@@ -75,7 +76,7 @@ module _ (n : ℕ) (fs : List Pair) (F : FitsBelow n fs) where
         left-is-outer n fs F p M (isOuter n fs p) (isInner n fs p) (group n fs F p M no-path) C (L .partners) (L .matching) (omega arith) k h (L .left)
 
     pub no-path-mark : (k : ℕ) → k < n →
-        markOf fs k ≡ markBy (isReachable (doubledTable n fs p)) k
+        pairingMark fs k ≡ reachedMark (isReachable (doubledTable n fs p)) k
     no-path-mark k h =
         by-test (isOuter n fs p k) (λ s. rw (s, outer-left k h s))
         (λ s.
@@ -98,13 +99,15 @@ module _ (n : ℕ) (fs : List Pair) (F : FitsBelow n fs) where
         rw (s, t, out, w)))
 
     marks-by : (f : ℕ → Bool) → ((v : ℕ) → v < 2 * suc n → f v ≡ isReachable (doubledTable n fs p) v) → (ks : List ℕ) → ((k : ℕ) → In k ks → k < n) →
-        marksFrom fs ks ≡ marksBy f ks
+        marksFrom fs ks ≡ marksBy (isIncluded fs) f ks
     unfolding marksFrom marksBy
     marks-by f e [] h = refl
     marks-by f e (k ∷ ks) h =
         let l = h k (inl refl) in
-        let m : markOf fs k ≡ markBy f k = no-path-mark k l ∙ rw (e (2 * k) (omega arith), e (2 * k + 1) (omega arith)) in
-        rw (m, marks-by f e ks (λ j i. h j (inr i)))
+        let m : pairingMark fs k ≡ reachedMark f k = no-path-mark k l ∙ rw (e (2 * k) (omega arith), e (2 * k + 1) (omega arith)) in
+        let o : markOf fs k ≡ markBy (isIncluded fs) f k = ap (λ (j : ℕ). pick (isIncluded fs k) j 3) m in
+        rw (o, marks-by f e ks (λ j i. h j (inr i)))
 
-    pub no-path-marks : (f : ℕ → Bool) → ((v : ℕ) → v < 2 * suc n → f v ≡ isReachable (doubledTable n fs p) v) → marksOf n fs ≡ marksBy f (below n)
+    pub no-path-marks : (f : ℕ → Bool) → ((v : ℕ) → v < 2 * suc n → f v ≡ isReachable (doubledTable n fs p) v) →
+        marksOf n fs ≡ marksBy (isIncluded fs) f (below n)
     no-path-marks f e = marks-by f e (below n) (λ k m. omega (arith, in-up 0 n k m))

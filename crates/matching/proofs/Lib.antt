@@ -4,7 +4,7 @@
 --   Matchings        pairings as involutions and as lists, both ways, with lengths
 --   InOrder          the pairs of a matching camera by camera
 --   Greatest         the greatest number of pairs and the cameras left over, by all pairings
---   Marks            marks by largest pairings
+--   Marks            marks by largest pairings and by fits
 --   Rotations        one rotation of a matching
 --   Rows             stores into a row of partners
 --   Flags            stores into a table of flags

@@ -1,7 +1,7 @@
 -- The promises, kept for every well-formed stock.
 --   well-formed-fits, well-formed-lit     what a well-formed stock gives the theory
 --   greatest-is                           document 03's GreatestIs
---   marks-are                             document 03's MarksAre
+--   marks-are                             document 03's MarksAre, with mark 3 (document 02, L2)
 use mathlib.Core.Path.{_≡_}
 use mathlib.Core.Bool.{true}
 use lib.Dec.{ltb}
@@ -15,7 +15,7 @@ use Rattle.matching.specs.Matching.{FitsBelow}
 use Rattle.matching.specs.Promise.{WellFormedStock, GreatestIs, MarksAre}
 use Rattle.matching.proofs.Rising.{rise-rising}
 use Rattle.matching.proofs.Greatest.{greatest-bound, greatest-pairing}
-use Rattle.matching.proofs.Marks.{mark-zero, mark-one}
+use Rattle.matching.proofs.Marks.{mark-means}
 use Rattle.matching.proofs.Plans.{some-plan}
 
 pub well-formed-fits : (s : Stock) → WellFormedStock s → FitsBelow (s .cameras) (s .fits)
@@ -36,5 +36,4 @@ greatest-is s ps w = (
 )
 
 pub marks-are : MarksAre
-marks-are s u w h =
-    (mark-zero (s .cameras) (s .fits) (well-formed-fits s w) u, mark-one (s .cameras) (s .fits) (well-formed-fits s w) u)
+marks-are s u m w h = mark-means (s .cameras) (s .fits) (well-formed-fits s w) u m

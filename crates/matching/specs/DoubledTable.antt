@@ -7,7 +7,8 @@
 --   Arc n fs p x               x is an arc of one of the four kinds
 --   ArcBetween g v w           some arc of g goes from v to w
 --   isOuter, isInner           camera k with 2k reachable; with 2k+1 reachable and 2k not
---   markBy f k, marksBy f ks   marks read off the reachable nodes: 0 where 2k is reached, 1 where only 2k+1 is, else 2
+--   reachedMark f k            read off the reachable nodes: 0 where 2k is reached, 1 where only 2k+1 is, else 2
+--   markBy h f k, marksBy h f ks     a camera's mark: 3 where it has no fit, else that; the marks of some cameras
 use mathlib.Core.Path.{_≡_}
 use mathlib.Core.Logic.{_≢_}
 use mathlib.Core.Bool.{Bool, _&&_, not}
@@ -56,9 +57,12 @@ isOuter n fs p k = isReachable (doubledTable n fs p) (2 * k)
 abbrev pub isInner : (cameras : ℕ) → (fits : List Pair) → (partner : ℕ → ℕ) → (camera : ℕ) → Bool
 isInner n fs p k = not (isReachable (doubledTable n fs p) (2 * k)) && isReachable (doubledTable n fs p) (2 * k + 1)
 
-abbrev pub markBy : (reached : ℕ → Bool) → (camera : ℕ) → ℕ
-markBy f k = pick (f (2 * k)) 0 (pick (f (2 * k + 1)) 1 2)
+abbrev pub reachedMark : (reached : ℕ → Bool) → (camera : ℕ) → ℕ
+reachedMark f k = pick (f (2 * k)) 0 (pick (f (2 * k + 1)) 1 2)
 
-unfoldable pub marksBy : (reached : ℕ → Bool) → (cameras : List ℕ) → List ℕ
-marksBy f [] = []
-marksBy f (k ∷ ks) = markBy f k ∷ marksBy f ks
+abbrev pub markBy : (hasFit reached : ℕ → Bool) → (camera : ℕ) → ℕ
+markBy h f k = pick (h k) (reachedMark f k) 3
+
+unfoldable pub marksBy : (hasFit reached : ℕ → Bool) → (cameras : List ℕ) → List ℕ
+marksBy h f [] = []
+marksBy h f (k ∷ ks) = markBy h f k ∷ marksBy h f ks

@@ -5,12 +5,14 @@
 --   LeftBySome fs u        some largest pairing leaves the camera over
 --   joins u v x            the pair is of these two cameras
 --   FitsSomeLeft fs u      the camera fits one that some largest pairing leaves over
---   MarksAre               a mark, by largest pairings
+--   HasFit fs u            the camera fits some camera
+--   MarkMeans fs u m       what mark m says of a camera (document 02, L2): one line a mark, and there is no other
+--   MarksAre               a camera has mark m exactly if that holds of it
 use mathlib.Core.Path.{_≡_}
 use mathlib.Core.Logic.{_↔_}
 use mathlib.Core.Bool.{Bool, true, false, _&&_, _||_}
 use mathlib.Core.List.{List}
-use Prim.Native.Nat.{ℕ, _≤_, _<_}
+use Prim.Native.Nat.{ℕ, zero, suc, _≤_, _<_}
 use lib.Dec.{eqb}
 use lib.ListN.{length}
 use Rattle.counting.specs.Tests.{all, any}
@@ -41,8 +43,17 @@ joins u v x = (eqb (x .first) u && eqb (x .second) v) || (eqb (x .first) v && eq
 abbrev pub FitsSomeLeft : (fits : List Pair) → (camera : ℕ) → Type 0
 FitsSomeLeft fs u = (v : ℕ) × ((any (joins u v) fs ≡ true) × LeftBySome fs v)
 
+abbrev pub HasFit : (fits : List Pair) → (camera : ℕ) → Type 0
+HasFit fs u = (v : ℕ) × (any (joins u v) fs ≡ true)
+
+-- marks 0, 1, 2 and 3, in this order
+unfoldable pub MarkMeans : (fits : List Pair) → (camera mark : ℕ) → Type 0
+MarkMeans fs u zero = LeftBySome fs u × HasFit fs u
+MarkMeans fs u (suc zero) = (LeftBySome fs u → true ≡ false) × FitsSomeLeft fs u
+MarkMeans fs u (suc (suc zero)) = (LeftBySome fs u → true ≡ false) × (FitsSomeLeft fs u → true ≡ false)
+MarkMeans fs u (suc (suc (suc zero))) = HasFit fs u → true ≡ false
+MarkMeans fs u (suc (suc (suc (suc m)))) = true ≡ false
+
 abbrev pub MarksAre : Type 0
 MarksAre =
-    (s : Stock) (u : ℕ) → WellFormedStock s → u < s .cameras →
-    ((markOf (s .fits) u ≡ 0) ↔ LeftBySome (s .fits) u) ×
-    ((markOf (s .fits) u ≡ 1) ↔ ((LeftBySome (s .fits) u → true ≡ false) × FitsSomeLeft (s .fits) u))
+    (s : Stock) (u m : ℕ) → WellFormedStock s → u < s .cameras → (markOf (s .fits) u ≡ m) ↔ MarkMeans (s .fits) u m

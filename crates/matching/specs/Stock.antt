@@ -1,5 +1,6 @@
 -- Stocks, pairings, the greatest number of pairs, marks and plans (document 01, "Stocks"; the definitions are document 03's). A fit is an edge,
--- a pairing a matching, and the marks are the Gallai-Edmonds decomposition.
+-- a pairing a matching, the marks of cameras that have a fit are the Gallai-Edmonds decomposition, and a camera without one is an isolated vertex
+-- (document 02, L2).
 --   Stock                                      cameras, fits and lit pairs
 --   samePair x y, samePairs xs ys              the same pair; the same pairs in the same order
 --   hasPair xs x                               the pair is one of these
@@ -9,7 +10,8 @@
 --   withFirst x pss, allPairings fs            those pairings to which x can be added, with x; every pairing of the fits
 --   mostOf pss, greatest fs                    the most pairs that one of these has; that a pairing of the fits has
 --   leftOver fs u, fitsLeftOver fs u           some largest pairing leaves the camera over; it fits one that is so left over
---   markOf fs u                                a camera's mark: 0 left over by some largest pairing, 1 fits such a camera, 2 neither
+--   pairingMark fs u                           document 03's mark, by pairings alone: 0 so left over, 1 fits such a camera, 2 neither
+--   markOf fs u                                a camera's mark: 3 if it has no fit, else that
 --   marksFrom fs us, marksOf n fs              the marks of some cameras; of all
 --   pairBefore x y, pairsRise xs               by first camera, then by second; smaller camera first, rising so
 --   keepsLit s ps                              every lit camera is still lit
@@ -68,7 +70,7 @@ mostOf (ps ∷ rest) = pick (ltb (mostOf rest) (length ps)) (length ps) (mostOf 
 abbrev pub greatest : List Pair → ℕ
 greatest fs = mostOf (allPairings fs)
 
--- MARKS: 0 some largest pairing leaves it over; 1 it fits such a camera; 2 neither
+-- MARKS: 3 it has no fit; else 0 some largest pairing leaves it over; 1 it fits such a camera; 2 neither
 abbrev pub leftOver : List Pair → (camera : ℕ) → Bool
 leftOver fs u = any (λ (ps : List Pair). eqb (length ps) (greatest fs) && not (isIncluded ps u)) (allPairings fs)
 
@@ -76,8 +78,11 @@ abbrev pub fitsLeftOver : List Pair → (camera : ℕ) → Bool
 fitsLeftOver fs u =
     any (λ (x : Pair). (eqb (x .first) u && leftOver fs (x .second)) || (eqb (x .second) u && leftOver fs (x .first))) fs
 
+abbrev pub pairingMark : List Pair → (camera : ℕ) → ℕ
+pairingMark fs u = pick (leftOver fs u) 0 (pick (fitsLeftOver fs u) 1 2)
+
 abbrev pub markOf : List Pair → (camera : ℕ) → ℕ
-markOf fs u = pick (leftOver fs u) 0 (pick (fitsLeftOver fs u) 1 2)
+markOf fs u = pick (isIncluded fs u) (pairingMark fs u) 3
 
 unfoldable pub marksFrom : List Pair → (cameras : List ℕ) → List ℕ
 marksFrom fs [] = []

@@ -1,5 +1,5 @@
 // Theory without code: pairings of cameras, largest pairings, marks and plans (document 001, section 2.1).
-//   specs/Stock, Promise                 the definitions of document 03, and what is promised of every well-formed stock
+//   specs/Stock, Promise                 the definitions of document 03, with the marks of document 02's L2, and what is promised of every well-formed stock
 //   proofs/Promises                      the greatest number of pairs and the marks, by all pairings; some plan for every stock
 // Why a pairing without an augmenting path is largest (Gallai and Edmonds):
 //   specs/Matching, DoubledTable         A pairing is an involution p on cameras. Its doubled table is a skew-symmetric graph: camera k is 2k and 2k+1.
@@ -12,5 +12,5 @@
 //   proofs/Certificates                  The bound: groups are odd, so every pairing leaves over a camera of each group, or pairs it with an inner one. No
 //                                        pairing leaves over fewer cameras than groups less inner ones. For p the bound is tight, and so p is largest.
 //   proofs/Largest                       So p has the greatest number of pairs, and the outer cameras are those that some largest pairing leaves over:
-//                                        the marks are read off the reachable nodes.
+//                                        the marks of cameras that have a fit are read off the reachable nodes. The fits alone tell the others.
 //   proofs/Plans                         From the lit pairs, path by path until there is none: a plan, or the lit pairs themselves if they are largest.

@@ -1,5 +1,5 @@
 -- From the lit pairs to a plan by one search after the other.
---   stock-lit                                 what a stock's tables give of its lit pairs
+--   stock-fits, stock-lit                     what a stock's tables give of its fits and of its lit pairs
 --   improving-start                           before the first search
 --   stepped-keeps, stepped-less               after any; and the loop ends
 --   row-lit                                   the row of the lit pairs
@@ -19,7 +19,7 @@ use Rattle.counting.proofs.Booleans.{by-test}
 use Rattle.counting.proofs.Membership.{getD-in}
 use Rattle.counting.proofs.Zips.{zip-length, zip-at}
 use Rattle.skew.specs.Graph.{isReachable, hasPath}
-use Rattle.matching.specs.Stock.{Stock, isPairing, isPlan}
+use Rattle.matching.specs.Stock.{Stock, isIncluded, isPairing, isPlan}
 use Rattle.matching.specs.Matching.{FitsBelow, Matching, unlit, partner, pairsInOrder}
 use Rattle.matching.specs.Rotation.{Augments}
 use Rattle.matching.specs.Row.{partnerIn}
@@ -38,7 +38,7 @@ module _ (n : ℕ) (firsts seconds litFirsts litSeconds : List ℕ) (T : StockTa
   abbrev s : Stock
   s = stockOf n firsts seconds litFirsts litSeconds
 
-  stock-fits : FitTable n firsts seconds
+  pub stock-fits : FitTable n firsts seconds
   stock-fits =
       record { as-long = T .as-long; cameras-few = T .cameras-few; fits-few = T .fits-few; fits = well-formed-fits s (T .well-formed) }
 
@@ -126,12 +126,12 @@ module _ (n : ℕ) (firsts seconds litFirsts litSeconds : List ℕ) (T : StockTa
   no-path : hasPath (doubledTable n fs p) ≡ false
   no-path = subst (λ (m : ℕ). hasPath (doubledTable m fs p) ≡ false) same (G .largest .ended .no-path)
 
-  pub largest-sheet : (ms₀ : List ℕ) {ms : List ℕ} {r : ℕ} → length ms₀ ≡ n → ms ≡ marksBy (reachedIn reached) (below (length ms₀)) → r ≡ length (pairsInOrder p (below (length row))) →
+  pub largest-sheet : (ms₀ : List ℕ) {ms : List ℕ} {r : ℕ} → length ms₀ ≡ n → ms ≡ marksBy (isIncluded fs) (reachedIn reached) (below (length ms₀)) → r ≡ length (pairsInOrder p (below (length row))) →
       Sheet n fs ms r
   largest-sheet ms₀ l m c =
       record {
         marks =
-            m ∙ ap (λ (k : ℕ). marksBy (reachedIn reached) (below k)) l ∙
+            m ∙ ap (λ (k : ℕ). marksBy (isIncluded fs) (reachedIn reached) (below k)) l ∙
             sym (no-path-marks n fs F p M no-path (reachedIn reached)
             (subst (λ (k : ℕ). (v : ℕ) → v < 2 * suc k → reachedIn reached v ≡ isReachable (doubledTable k fs p) v) same (G .largest .ended .tells)));
         count =

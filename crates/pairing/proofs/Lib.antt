@@ -4,6 +4,7 @@
 --   Following    a path followed by rotations
 --   Lighting     a row read from pairs, and its pairs in order
 --   Stores       a table filled from its front
+--   Flagging     the flags of cameras that have a fit
 --   Searching    the doubled table as a search sees it, and its answers
 --   Improving    from the lit pairs to a plan, one search after the other
 --   Plans        what a caller reads of a plan that it was handed
@@ -12,6 +13,7 @@ pub mod Doubling
 pub mod Following
 pub mod Lighting
 pub mod Stores
+pub mod Flagging
 pub mod Searching
 pub mod Improving
 pub mod Plans

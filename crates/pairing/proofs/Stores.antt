@@ -20,7 +20,7 @@ filled-more h xs k x l was e j i =
     ⊎-elim (λ q. ap (λ (m : ℕ). getD (set xs k x) m 0) q ∙ getD-set-same xs k x 0 l ∙ e ∙ ap h (sym q))
     (λ q. getD-set-other xs k j x 0 q ∙ was j (omega arith)) (same-or j k)
 
-pub filled-marks : (f : ℕ → Bool) (ms : List ℕ) (n : ℕ) → length ms ≡ n → ((j : ℕ) → j < n → getD ms j 0 ≡ markBy f j) → ms ≡ marksBy f (below n)
-filled-marks f ms n e was =
-    ext-getD 0 ms (marksBy f (below n)) (e ∙ sym (marks-length f (below n) ∙ length-up 0 n))
-    (λ i h. was i (omega arith) ∙ sym (marks-at f 0 n i (omega arith) ∙ ap (markBy f) (omega arith)))
+pub filled-marks : (h f : ℕ → Bool) (ms : List ℕ) (n : ℕ) → length ms ≡ n → ((j : ℕ) → j < n → getD ms j 0 ≡ markBy h f j) → ms ≡ marksBy h f (below n)
+filled-marks h f ms n e was =
+    ext-getD 0 ms (marksBy h f (below n)) (e ∙ sym (marks-length h f (below n) ∙ length-up 0 n))
+    (λ i l. was i (omega arith) ∙ sym (marks-at h f 0 n i (omega arith) ∙ ap (markBy h f) (omega arith)))

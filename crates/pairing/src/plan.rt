@@ -6,7 +6,8 @@
 // 3. That is the dual solution, the bound of Tutte and Berge: any pairing leaves over a camera of each group but for at most one group for each inner
 // camera. The row leaves over exactly so many, so no pairing has more pairs. (matching/proofs/Certificates representatives-count, largest)
 // 4. A path to 2k gives a pairing as large that leaves camera k over, and by the same bound a largest pairing leaves over outer cameras only. So outer is
-// mark 00, inner 01, the rest 02, whichever pairs are lit. (matching/proofs/Augmentation reachable-left, Certificates left-is-outer, Largest no-path-marks)
+// mark 00, inner 01, the rest 02, whichever pairs are lit; but a camera without a fit, which is outer, has 03, and the fits tell it.
+// (matching/proofs/Augmentation reachable-left, Certificates left-is-outer, Largest no-path-marks)
 // 5. The code's part: one search in proofs/Searching, the loop of searches in proofs/Improving.
 //   improve              one search
 //   largest              one after the other
@@ -161,7 +162,7 @@ fn sheet_in(
     ensures { λ r. ⌜ Sheet (length (now (row .entry))) (zipPairs (now (firsts .entry)) (now (seconds .entry))) (now (marks .exit)) r ⌝ }
 {
     largest_from_lit(row, firsts, seconds, lit_firsts, lit_seconds, reached);
-    marks_of(reached, marks);
+    marks_of(firsts, seconds, reached, marks);
     pair_count(row)
 }
 

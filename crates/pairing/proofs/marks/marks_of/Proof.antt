@@ -1,86 +1,48 @@
--- Camera by camera: the marks before k are read.
-use mathlib.Core.Path.{_≡_, refl, _∙_}
-use Prim.Native.Nat.{ℕ, _-_, _≤_, _<_}
-use native.Mathlib.Omega.{arith}
-use lib.ListN.{length, getD, length-set}
+-- The fits set the flags of a table of zeros, and the flags tell which cameras have a fit.
+use mathlib.Core.Path.{ap, _∙_}
+use mathlib.Core.Bool.{Bool}
+use Prim.Native.Nat.{ℕ}
+use lib.ListN.{length}
 use denote.Ref.{now}
 use borrow.Author.Needs.{needs}
-use Rattle.matching.specs.DoubledTable.{markBy}
+use Rattle.counting.specs.Tests.{below}
+use Rattle.counting.specs.Pairs.{zipPairs}
+use Rattle.matching.specs.DoubledTable.{marksBy}
 use Rattle.pairing.specs.Plan.{reachedIn}
-use Rattle.pairing.proofs.Stores.{filled-more, filled-marks}
+use Rattle.pairing.proofs.Flagging.{flags-of-fits, fit-cameras}
 use Rattle.pairing.proofs.marks.marks_of.Statement.{statement}
 use Rattle.pairing.proofs.marks.marks_of.Tie as tie
 
-abbrev Inv-loop : tie.InvT-loop
-Inv-loop reached marks₀ k₀ marks k =
-    (k ≤ length marks) × (length marks ≡ length marks₀) × ((j : ℕ) → j < k → getD marks j 0 ≡ markBy (reachedIn reached) j)
+slice-aggregate-flag-fits : tie.Need-slice-aggregate-flag-fits
+slice-aggregate-flag-fits c = search needs
 
-abbrev μ-loop : tie.MeasureT-loop
-μ-loop reached marks₀ k₀ marks k = length marks - k
+flag-fits-requires : tie.Need-flag-fits-requires
+flag-fits-requires c κs =
+    let S = c .before .before .before .before .before in fit-cameras _ (now (S .args .firsts)) (now (S .args .seconds)) (S .pre .0)
 
-loop-holds : tie.Need-loop-holds Inv-loop μ-loop
-loop-holds c = (omega arith, refl, λ j h. absurd (omega arith))
+slice-aggregate-read-marks : tie.Need-slice-aggregate-read-marks
+slice-aggregate-read-marks c = search needs
 
-mul-mark-of : tie.Need-mul-mark-of Inv-loop μ-loop
-mul-mark-of c = search needs
+read-marks-requires : tie.Need-read-marks-requires
+read-marks-requires c κs = search needs
 
-shared-slice-read-mark-of : tie.Need-shared-slice-read-mark-of Inv-loop μ-loop
-shared-slice-read-mark-of c = omega (arith, c .before .before .loop .inv .1, c .before .before .before .before .before .pre)
+same-length : tie.Need-same-length
+same-length c = search needs
 
-mul-mark-of-2 : tie.Need-mul-mark-of-2 Inv-loop μ-loop
-mul-mark-of-2 c = search needs
-
-add-mark-of : tie.Need-add-mark-of Inv-loop μ-loop
-add-mark-of c = search needs
-
-shared-slice-read-mark-of-2 : tie.Need-shared-slice-read-mark-of-2 Inv-loop μ-loop
-shared-slice-read-mark-of-2 c =
-    omega (arith, c .before .before .before .loop .inv .1, c .before .before .before .before .before .before .pre)
-
-mark-of-requires : tie.Need-mark-of-requires Inv-loop μ-loop
-mark-of-requires c κs = search needs
-
-slice-write-marks : tie.Need-slice-write-marks Inv-loop μ-loop
-slice-write-marks c = search needs
-
-add-k : tie.Need-add-k Inv-loop μ-loop
-add-k c = search needs
-
-loop-less : tie.Need-loop-less Inv-loop μ-loop
-loop-less c =
-    omega (arith, length-set (c .before .before .before .before .loop .marks) (c .before .before .before .before .loop .k) (c .mark-of .result))
-
-loop-again : tie.Need-loop-again Inv-loop μ-loop
-loop-again c =
-    let l = c .before .before .before .before .loop in
-    let r = c .mark-of in
-    let n = length-set (l .marks) (l .k) (r .result) in
-    (omega arith, n ∙ l .inv .1, filled-more (markBy (reachedIn (now (c .before .before .before .before .before .before .before .args .reached)))) (l .marks) (l .k) (r .result) (omega arith) (l .inv .2) (r .ensures))
-
-same-length : tie.Need-same-length Inv-loop μ-loop
-same-length c = c .before .loop .inv .1
-
-returns : tie.Need-returns Inv-loop μ-loop
+returns : tie.Need-returns
 returns c =
-    let l = c .before .loop in
-    filled-marks (reachedIn (now (c .before .before .before .before .args .reached))) (l .marks) _ (l .inv .1) (λ j h. l .inv .2 j (omega (arith, l .inv .1)))
+    let S = c .before .before .before .before .before .before .before .before .before .before .before .before in
+    let F = c .before .before .before .before .before .before .flag-fits in
+    let f = flags-of-fits (zipPairs (now (S .args .firsts)) (now (S .args .seconds))) (F .last .0) (F .ensures) in
+    c .before .before .read-marks .ensures ∙ ap (λ (h : ℕ → Bool). marksBy h (reachedIn (now (S .args .reached))) (below (length (now (S .args .marks))))) f
 
 pub marks-of-spec : {M : Type 1} → statement M
 marks-of-spec =
     tie.close
     (tie.spec
-    Inv-loop
-    μ-loop
-    loop-holds
-    mul-mark-of
-    shared-slice-read-mark-of
-    mul-mark-of-2
-    add-mark-of
-    shared-slice-read-mark-of-2
-    mark-of-requires
-    slice-write-marks
-    add-k
-    loop-less
-    loop-again
+    slice-aggregate-flag-fits
+    flag-fits-requires
+    slice-aggregate-read-marks
+    read-marks-requires
     same-length
     returns)

@@ -1,7 +1,7 @@
--- The last search tells the marks, and the row the number of pairs.
+-- The last search and the fits tell the marks, and the row the number of pairs.
 use denote.Ref.{now}
 use borrow.Author.Needs.{needs}
-use Rattle.pairing.proofs.Improving.{largest-sheet}
+use Rattle.pairing.proofs.Improving.{stock-fits, largest-sheet}
 use Rattle.pairing.proofs.plan.sheet_in.Statement.{statement}
 use Rattle.pairing.proofs.plan.sheet_in.Tie as tie
 
@@ -9,7 +9,9 @@ largest-from-lit-requires : tie.Need-largest-from-lit-requires
 largest-from-lit-requires c κs = search needs
 
 marks-of-requires : tie.Need-marks-of-requires
-marks-of-requires c κs = search needs
+marks-of-requires c κs =
+    let S = c .before .before .before .before .before .before .before .before .before .before .before .before .before .before .before .before in
+    (rw (S .pre .1 .1) (stock-fits _ _ _ _ _ (S .pre .0)), search needs)
 
 pair-count-requires : tie.Need-pair-count-requires
 pair-count-requires c κs = search needs
