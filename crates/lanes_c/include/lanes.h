@@ -33,7 +33,8 @@ uint64_t lanes_graph(const uint8_t *file, size_t file_size, uint8_t *out, size_t
 /* A stock file: as many pairs as possible, every lit camera still lit; the lit pairs where those are as many. */
 uint64_t lanes_plan(const uint8_t *file, size_t file_size, uint8_t *out, size_t out_size, uint32_t tally[4]);
 
-/* A stock file: its standing sheet, the greatest number of pairs and a mark for each camera. */
+/* A stock file: its standing sheet, the greatest number of pairs and a mark for each camera. 00: some largest pairing leaves it over, and it has a
+ * fit; 01: none does, and it fits a camera marked 00; 02: none does, and it fits no such camera; 03: it has no fit at all. */
 uint64_t lanes_sheet(const uint8_t *file, size_t file_size, uint8_t *out, size_t out_size, uint32_t tally[4]);
 
 /* A graph file and a certificate, a path or a barrier: 1 for yes, 0 for no, otherwise the refusal, which is 2 or more: the graph's number (2 to 10), or the
