@@ -4,7 +4,7 @@
 --   shared-step                      a free pair: its cameras are flagged, and what is asked goes on behind it
 --   shared-first, shared-second      a camera that is flagged: it is in two pairs
 --   shared-end                       there is no pair left
-use mathlib.Core.Path.{_≡_, refl, sym, _∙_}
+use mathlib.Core.Path.{_≡_, refl, sym}
 use mathlib.Core.Bool.{Bool, true, false, _&&_, _||_, not, and-false, and-assoc}
 use mathlib.Core.List.{List, [], _∷_}
 use Prim.Native.Nat.{ℕ, _+_, _≤_, _<_}

@@ -1,7 +1,7 @@
 -- The doubled table, written arc by arc: what is written and what is left are the whole.
 --   cameras-left-first, cameras-left-none, cameras-left-all      the next camera's arcs; no camera left; all
 --   fits-left-first, fits-left-none               the next fit's arcs; no fit left
---   pair-at, fit-first, fit-second                a pair of two tables, and its cameras
+--   pair-at, pairs-end, fit-first, fit-second     a pair of two tables, none behind the last; a fit's cameras
 --   row-low, cameras-size                         partners are cameras; how many arcs the cameras have
 --   doubled, doubled-graph                        cameras and then fits are the doubled table; the graph of it
 use mathlib.Core.Path.{_≡_, sym, ap, _∙_}
@@ -53,6 +53,10 @@ pair-at firsts seconds i e h =
     (drop-cons (zipPairs firsts seconds) i noPair (omega (arith, zip-length firsts seconds e)) ∙
     ap (λ (x : Pair). x ∷ drop (suc i) (zipPairs firsts seconds)) (zip-at firsts seconds i e h))
 
+pub pairs-end : (firsts seconds : List ℕ) (i : ℕ) → length seconds ≡ length firsts → i ≡ length firsts → drop i (zipPairs firsts seconds) ≡ []
+pairs-end firsts seconds i e q =
+    ap (λ (m : ℕ). drop m (zipPairs firsts seconds)) (q ∙ sym (zip-length firsts seconds e)) ∙ drop-length (zipPairs firsts seconds)
+
 module _ (n : ℕ) (firsts seconds : List ℕ) (T : FitTable n firsts seconds) (i : ℕ) (h : i < length firsts) where
   fit-in : In (pair (getD firsts i 0) (getD seconds i 0)) (zipPairs firsts seconds)
   fit-in = rw (← zip-at firsts seconds i (T .as-long) h) (getD-in (zipPairs firsts seconds) noPair i (omega (arith, zip-length firsts seconds (T .as-long))))
@@ -72,9 +76,7 @@ fits-left-first row firsts seconds i e h l =
 
 pub fits-left-none : (row firsts seconds : List ℕ) (i : ℕ) → length seconds ≡ length firsts → i ≡ length firsts → fitsLeft row firsts seconds i ≡ []
 unfolding fitArcs
-fits-left-none row firsts seconds i e q =
-    ap (λ (fs : List Pair). fitArcs (partnerIn row) fs)
-    (ap (λ (m : ℕ). drop m (zipPairs firsts seconds)) (q ∙ sym (zip-length firsts seconds e)) ∙ drop-length (zipPairs firsts seconds))
+fits-left-none row firsts seconds i e q = ap (λ (fs : List Pair). fitArcs (partnerIn row) fs) (pairs-end firsts seconds i e q)
 
 pub cameras-size : (row : List ℕ) {ts hs ts′ hs′ : List ℕ} {r : ℕ} →
     PairsWritten ts hs 0 ts′ hs′ r (cameraArcs (length row) (partnerIn row) (below (length row)) []) → r ≤ 2 * length row

@@ -2,22 +2,20 @@
 --   flags-next, flags-end      the flags set and those of the fits from i on, by the next fit; when none is left
 --   flags-of-fits              from a table of zeros: the cameras of the fits
 --   fit-cameras                a table of fits as a table of pairs, of as many cameras as there can be
-use mathlib.Core.Path.{_≡_, refl, sym, ap, _∙_, fun-ext}
+use mathlib.Core.Path.{_≡_, refl, sym, _∙_, fun-ext}
 use mathlib.Core.Bool.{_||_, or-assoc, or-false}
 use mathlib.Core.List.{List}
 use Prim.Native.Nat.{ℕ, _+_, _<_}
 use native.Mathlib.Omega.{arith}
 use lib.ListN.{length, getD, drop, replicate}
-use lib.Seq.{drop-length}
 use Rattle.formats.specs.Limits.{camerasMost}
 use Rattle.counting.specs.Tests.{all, any}
 use Rattle.counting.specs.Pairs.{Pair, pair, zipPairs}
-use Rattle.counting.proofs.Zips.{zip-length}
 use Rattle.matching.specs.Stock.{touches, isIncluded}
 use Rattle.matching.specs.Flags.{isFlagged, flagPair}
 use Rattle.matching.proofs.Flags.{no-flag, flag-pair}
 use Rattle.pairing.specs.Table.{PairTable, FitTable}
-use Rattle.pairing.proofs.Doubling.{pair-at, fit-first, fit-second}
+use Rattle.pairing.proofs.Doubling.{pair-at, pairs-end, fit-first, fit-second}
 
 module _ (firsts seconds : List ℕ) (l : length seconds ≡ length firsts) (flags : List ℕ) (u : ℕ) where
   pub flags-next : (i : ℕ) → i < length firsts → getD firsts i 0 < length flags → getD seconds i 0 < length flags →
@@ -31,9 +29,7 @@ module _ (firsts seconds : List ℕ) (l : length seconds ≡ length firsts) (fla
 
   pub flags-end : (i : ℕ) → i ≡ length firsts → (isFlagged flags u || isIncluded (drop i (zipPairs firsts seconds)) u) ≡ isFlagged flags u
   unfolding any
-  flags-end i e =
-      let none = ap (λ (m : ℕ). drop m (zipPairs firsts seconds)) (e ∙ sym (zip-length firsts seconds l)) ∙ drop-length (zipPairs firsts seconds) in
-      rw none (or-false (isFlagged flags u))
+  flags-end i e = rw (pairs-end firsts seconds i l e) (or-false (isFlagged flags u))
 
 pub flags-of-fits : (fs : List Pair) (flags : List ℕ) → ((u : ℕ) → isFlagged flags u ≡ (isFlagged (replicate {A = ℕ} camerasMost 0) u || isIncluded fs u)) →
     isFlagged flags ≡ isIncluded fs

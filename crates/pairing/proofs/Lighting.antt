@@ -3,28 +3,26 @@
 --   pairs-left-first, pairs-left-none, pairs-left-all      the next camera's pair; no camera left; all
 --   count-taken, count-left                    how many pairs are left, by the next camera
 --   pair-few                                   at most one pair for a camera
-use mathlib.Core.Path.{_≡_, sym, ap, _∙_}
+use mathlib.Core.Path.{_≡_, refl, sym, ap, _∙_}
 use mathlib.Core.List.{List, [], _++_}
 use Prim.Native.Nat.{ℕ, _+_, _-_, _≤_, _<_}
 use native.Mathlib.Omega.{arith}
 use lib.Dec.{ltb}
 use lib.ListN.{length, getD, drop, length-append}
-use lib.Seq.{drop-length}
 use borrow.Author.Tests.{lt-ltb, le-ltb}
 use Rattle.counting.specs.Tests.{below, upFrom}
 use Rattle.counting.specs.Pairs.{Pair, pair, zipPairs}
 use Rattle.counting.proofs.Booleans.{by-test}
 use Rattle.counting.proofs.Range.{up-cons, up-none}
-use Rattle.counting.proofs.Zips.{zip-length}
 use Rattle.matching.specs.Matching.{partner, pairOf, pairsInOrder}
 use Rattle.matching.specs.Row.{partnerIn, lightRow}
 use Rattle.matching.proofs.Rows.{row-partner, light-row}
 use Rattle.pairing.specs.Row.{pairsLeft}
-use Rattle.pairing.proofs.Doubling.{pair-at}
+use Rattle.pairing.proofs.Doubling.{pair-at, pairs-end}
 
 -- LIT
 pub lit-none : (firsts seconds : List ℕ) → length seconds ≡ length firsts → partner (drop (length firsts) (zipPairs firsts seconds)) ≡ partner []
-lit-none firsts seconds e = ap partner (ap (λ (m : ℕ). drop m (zipPairs firsts seconds)) (sym (zip-length firsts seconds e)) ∙ drop-length (zipPairs firsts seconds))
+lit-none firsts seconds e = ap partner (pairs-end firsts seconds (length firsts) e refl)
 
 pub lit-one : (row firsts seconds : List ℕ) (i : ℕ) → length seconds ≡ length firsts → i < length firsts → getD firsts i 0 < length row → getD seconds i 0 < length row →
     partnerIn row ≡ partner (drop (i + 1) (zipPairs firsts seconds)) → partnerIn (lightRow row (getD firsts i 0) (getD seconds i 0)) ≡ partner (drop i (zipPairs firsts seconds))
