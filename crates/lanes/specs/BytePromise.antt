@@ -1,5 +1,6 @@
--- Five promises as document 03 states them: of files whose elements are bytes. Promise says as much or more under each name, of every file. Document 03's
--- markOf is pairingMark here, since document 02's L2 gives cameras without a fit a mark of their own; Promise MarksKept says how they differ.
+-- Five promises as document 03 states them: of files whose elements are bytes. Promise says as much or more, of every file: of four under the same name.
+-- Document 03's markOf is pairingMark here, since document 02's L2 gives cameras without a fit a mark of their own; there MarksAre speaks of the new mark,
+-- and MarksKept says how the two differ.
 --   areBytes           every element is a byte
 --   IsGraphFile        bytes that the questions of a graph file accept
 --   ReachesByPaths, PathOrBarrier, GreatestIs, MarksAre, SheetsTell    demands 2 and 3, of files of bytes

@@ -1,6 +1,7 @@
--- What is promised of every graph file and of every two stock files. Each promise is a type; a term of the type is the theorem's proof. The
--- first five are document 03's (BytePromise has them as it states them), without its premise that a file's elements are bytes; PathOrBarrier also
--- says what hasPath tells, and MarksAre what mark 2 does, and mark 3, which document 02's L2 adds. The others are added.
+-- What is promised of every graph file and of every two stock files. Each promise is a type; a term of the type is the theorem's proof.
+-- ReachesByPaths, PathOrBarrier, GreatestIs, MarksAre and SheetsTell are document 03's (BytePromise has them as it states them), without its premise that
+-- a file's elements are bytes; PathOrBarrier also says what hasPath tells, and MarksAre what mark 2 does, and mark 3, which document 02's L2 brings. The
+-- others are added.
 --   ReachesByPaths    demand 2: a node is reachable exactly if a regular path from the source ends there
 --   PathOrBarrier     demand 2: a path and a barrier exclude each other, and without a path the canonical one is a barrier; hasPath tells which
 --   GreatestIs        demand 3: the greatest number of pairs, by all pairings of the file's fits; and there is a plan
