@@ -10,7 +10,7 @@ use mathlib.Core.List.{List, [], _∷_}
 use Prim.Native.Nat.{ℕ, _+_, _≤_, _<_}
 use native.Mathlib.Omega.{arith}
 use lib.Dec.{eqb}
-use borrow.Author.Tests.{eq-eqb, ne-eqb}
+use borrow.Author.Tests.{lt-ltb, le-ltb}
 use lib.ListN.{length, getD, drop}
 use Rattle.counting.specs.Tests.{all, any}
 use Rattle.counting.specs.Pairs.{Pair, pair, pairsOf}
@@ -67,17 +67,17 @@ module _ {n : ℕ} {us vs : List ℕ} (r : Holds n us vs) (ts : List ℕ) (i : �
   shared-end h = rw (pairs-none r i h)
 
   module _ (h : i < n) where
-    pub shared-first : (getD ts (getD us i 0) 0 ≡ 0 → ⊥) → sharesNone ts (drop i (pairsOf n us vs)) ≡ false
+    pub shared-first : 0 < getD ts (getD us i 0) 0 → sharesNone ts (drop i (pairsOf n us vs)) ≡ false
     unfolding sharesNone all
-    shared-first e = rw (pairs-next r i h, ne-eqb _ _ e)
+    shared-first e = rw (pairs-next r i h, lt-ltb _ _ e)
 
-    pub shared-second : (getD ts (getD vs i 0) 0 ≡ 0 → ⊥) → sharesNone ts (drop i (pairsOf n us vs)) ≡ false
+    pub shared-second : 0 < getD ts (getD vs i 0) 0 → sharesNone ts (drop i (pairsOf n us vs)) ≡ false
     unfolding sharesNone all
-    shared-second e = rw (pairs-next r i h, ne-eqb _ _ e, and-false (not (isFlagged ts (getD us i 0))))
+    shared-second e = rw (pairs-next r i h, lt-ltb _ _ e, and-false (not (isFlagged ts (getD us i 0))))
 
-    pub shared-step : length ts ≡ 256 → getD us i 0 < 256 → getD vs i 0 < 256 → getD ts (getD us i 0) 0 ≡ 0 → getD ts (getD vs i 0) 0 ≡ 0 →
+    pub shared-step : length ts ≡ 256 → getD us i 0 < 256 → getD vs i 0 < 256 → getD ts (getD us i 0) 0 ≤ 0 → getD ts (getD vs i 0) 0 ≤ 0 →
         sharesNone ts (drop i (pairsOf n us vs)) ≡ sharesNone (flagPair ts (pair (getD us i 0) (getD vs i 0))) (drop (i + 1) (pairsOf n us vs))
     unfolding sharesNone
     shared-step l a b p q =
         rw (pairs-next r i h)
-        (step ts (pair (getD us i 0) (getD vs i 0)) (omega arith) (omega arith) (drop (i + 1) (pairsOf n us vs)) (rw (eq-eqb _ _ p, eq-eqb _ _ q)))
+        (step ts (pair (getD us i 0) (getD vs i 0)) (omega arith) (omega arith) (drop (i + 1) (pairsOf n us vs)) (rw (le-ltb _ _ p, le-ltb _ _ q)))

@@ -154,10 +154,10 @@ pub fn none_shared(firsts: &[u8], seconds: &[u8], count: usize) -> bool
     while i < count {
         let u = firsts[i] as usize;
         let v = seconds[i] as usize;
-        if flags[u] != 0 {
+        if 0 < flags[u] {
             return false;
         }
-        if flags[v] != 0 {
+        if 0 < flags[v] {
             return false;
         }
         flags[u] = 1;

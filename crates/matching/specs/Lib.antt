@@ -5,7 +5,7 @@
 --   Matching        pairings as involutions
 --   Rotation        rotation of a matching, and along a path
 --   Row             a pairing as a row of partners
---   Flags           a table with a flag for each camera
+--   Flags           a table of flags
 --   DoubledTable    the doubled table of a matching, a skew-symmetric graph
 --   Certificate     the Gallai-Edmonds decomposition
 pub mod Stock

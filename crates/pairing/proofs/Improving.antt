@@ -23,6 +23,7 @@ use Rattle.matching.specs.Stock.{Stock, isIncluded, isPairing, isPlan}
 use Rattle.matching.specs.Matching.{FitsBelow, Matching, unlit, partner, pairsInOrder}
 use Rattle.matching.specs.Rotation.{Augments}
 use Rattle.matching.specs.Row.{partnerIn}
+use Rattle.matching.specs.Flags.{isFlagged}
 use Rattle.matching.specs.DoubledTable.{doubledTable, marksBy}
 use Rattle.matching.proofs.Rising.{rising-ordered}
 use Rattle.matching.proofs.Matchings.{list-fits, list-matching, list-count, lit-count}
@@ -31,7 +32,7 @@ use Rattle.matching.proofs.Largest.{no-path-marks, no-path-pairs}
 use Rattle.matching.proofs.Plans.{augmented-plan}
 use Rattle.matching.proofs.Promises.{well-formed-fits, well-formed-lit}
 use Rattle.pairing.specs.Table.{stockOf, PairTable, FitTable, PairsWritten}
-use Rattle.pairing.specs.Plan.{StockTable, reachedIn, Ended, Stepped, Improving, LargestFrom, PlanListed, Sheet}
+use Rattle.pairing.specs.Plan.{StockTable, Ended, Stepped, Improving, LargestFrom, PlanListed, Sheet}
 
 -- THE STOCK'S TABLES
 module _ (n : ℕ) (firsts seconds litFirsts litSeconds : List ℕ) (T : StockTable n firsts seconds litFirsts litSeconds) where
@@ -126,14 +127,14 @@ module _ (n : ℕ) (firsts seconds litFirsts litSeconds : List ℕ) (T : StockTa
   no-path : hasPath (doubledTable n fs p) ≡ false
   no-path = subst (λ (m : ℕ). hasPath (doubledTable m fs p) ≡ false) same (G .largest .ended .no-path)
 
-  pub largest-sheet : (ms₀ : List ℕ) {ms : List ℕ} {r : ℕ} → length ms₀ ≡ n → ms ≡ marksBy (isIncluded fs) (reachedIn reached) (below (length ms₀)) → r ≡ length (pairsInOrder p (below (length row))) →
+  pub largest-sheet : (ms₀ : List ℕ) {ms : List ℕ} {r : ℕ} → length ms₀ ≡ n → ms ≡ marksBy (isIncluded fs) (isFlagged reached) (below (length ms₀)) → r ≡ length (pairsInOrder p (below (length row))) →
       Sheet n fs ms r
   largest-sheet ms₀ l m c =
       record {
         marks =
-            m ∙ ap (λ (k : ℕ). marksBy (isIncluded fs) (reachedIn reached) (below k)) l ∙
-            sym (no-path-marks n fs F p M no-path (reachedIn reached)
-            (subst (λ (k : ℕ). (v : ℕ) → v < 2 * suc k → reachedIn reached v ≡ isReachable (doubledTable k fs p) v) same (G .largest .ended .tells)));
+            m ∙ ap (λ (k : ℕ). marksBy (isIncluded fs) (isFlagged reached) (below k)) l ∙
+            sym (no-path-marks n fs F p M no-path (isFlagged reached)
+            (subst (λ (k : ℕ). (v : ℕ) → v < 2 * suc k → isFlagged reached v ≡ isReachable (doubledTable k fs p) v) same (G .largest .ended .tells)));
         count =
             c ∙ ap (λ (k : ℕ). length (pairsInOrder p (below k))) same ∙ ap (λ (xs : List Pair). length xs) (pairs-lit n fs F p M) ∙
             no-path-pairs n fs F p M no-path;

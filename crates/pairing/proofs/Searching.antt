@@ -25,12 +25,13 @@ use Rattle.search.proofs.Answers.{table-tells, wanted-front}
 use Rattle.matching.specs.Matching.{Matching}
 use Rattle.matching.specs.Rotation.{rotateAlong, Rotates, Augments}
 use Rattle.matching.specs.Row.{partnerIn}
+use Rattle.matching.specs.Flags.{isFlagged}
 use Rattle.matching.specs.DoubledTable.{doubledTable}
 use Rattle.matching.proofs.DoubledTable.{table-well-formed}
 use Rattle.matching.proofs.Augmentation.{wanted-augments}
 use Rattle.pairing.specs.Table.{FitTable, Doubled}
 use Rattle.pairing.specs.Row.{tableGraph}
-use Rattle.pairing.specs.Plan.{reachedIn, Stepped}
+use Rattle.pairing.specs.Plan.{Stepped}
 use Rattle.pairing.proofs.Doubling.{doubled-graph}
 
 pub row-front : (n : ℕ) → n ≤ camerasMost → length (take n (replicate {A = ℕ} camerasMost 0)) ≡ n
@@ -105,7 +106,7 @@ module _ (row firsts seconds : List ℕ) {ts₀ hs₀ ts hs : List ℕ} {r : ℕ
         none = λ t. (refl, record { no-path = subst (λ (h : Graph). hasPath h ≡ false) same e; tells = tells });
       }
     where
-      tells : (v : ℕ) → v < 2 * suc n → reachedIn reached v ≡ isReachable (doubledTable n fs p) v
+      tells : (v : ℕ) → v < 2 * suc n → isFlagged reached v ≡ isReachable (doubledTable n fs p) v
       tells v l =
-          subst (λ (h : Graph). reachedIn reached v ≡ isReachable h v) same
-          (ap (λ (rs : List ℕ). reachedIn rs v) table-is ∙ table-tells g v (omega arith))
+          subst (λ (h : Graph). isFlagged reached v ≡ isReachable h v) same
+          (ap (λ (rs : List ℕ). isFlagged rs v) table-is ∙ table-tells g v (omega arith))

@@ -1,6 +1,5 @@
 -- The loop of searches: each gives one pair more, and the last tells the reachable nodes.
 --   StockTable n firsts seconds litFirsts litSeconds     what the questions put to a stock settle
---   reachedIn reached v                node v is reached, by a table of numbers
 --   Ended fs row reached               the row's doubled table has no path, and the table tells its reachable nodes
 --   Stepped fs row row′ reached r      one search: r, and one pair more; or none, and the table of nodes
 --   Improving fs row₀ row              some searches: every lit camera is lit, and nothing or the number of pairs has changed
@@ -13,8 +12,7 @@ use mathlib.Core.Logic.{_⊎_, _≢_}
 use mathlib.Core.Bool.{Bool, true, false}
 use mathlib.Core.List.{List}
 use Prim.Native.Nat.{ℕ, suc, _*_, _≤_, _<_}
-use lib.Dec.{ltb}
-use lib.ListN.{length, getD}
+use lib.ListN.{length}
 use lib.Seq.{sets}
 use Rattle.formats.specs.Limits.{camerasMost, fitsMost}
 use Rattle.counting.specs.Pairs.{Pair, firstsOf, secondsOf}
@@ -24,6 +22,7 @@ use Rattle.matching.specs.Promise.{WellFormedStock}
 use Rattle.matching.specs.Matching.{Matching, unlit, partner}
 use Rattle.matching.specs.Rotation.{Augments}
 use Rattle.matching.specs.Row.{partnerIn}
+use Rattle.matching.specs.Flags.{isFlagged}
 use Rattle.matching.specs.DoubledTable.{doubledTable}
 use Rattle.pairing.specs.Table.{stockOf}
 
@@ -34,12 +33,9 @@ pub record StockTable (n : ℕ) (firsts seconds litFirsts litSeconds : List ℕ)
   pub fits-few : length firsts ≤ fitsMost
   pub well-formed : WellFormedStock (stockOf n firsts seconds litFirsts litSeconds)
 
-abbrev pub reachedIn : (reached : List ℕ) → (node : ℕ) → Bool
-reachedIn reached v = ltb 0 (getD reached v 0)
-
 pub record Ended (fs : List Pair) (row reached : List ℕ) : Type 0 where
   pub no-path : hasPath (doubledTable (length row) fs (partnerIn row)) ≡ false
-  pub tells : (v : ℕ) → v < 2 * suc (length row) → reachedIn reached v ≡ isReachable (doubledTable (length row) fs (partnerIn row)) v
+  pub tells : (v : ℕ) → v < 2 * suc (length row) → isFlagged reached v ≡ isReachable (doubledTable (length row) fs (partnerIn row)) v
 
 pub record Stepped (fs : List Pair) (row row′ reached : List ℕ) (r : Bool) : Type 0 where
   pub more : r ≡ true → Augments (length row) fs (partnerIn row) (partnerIn row′)

@@ -1,12 +1,13 @@
 // Marks (document 01, "Stocks"; document 02, L2): read off a table of reached nodes, that of a doubled table without a path, for cameras that have a fit.
 //   flag_fits      which cameras have a fit: one pass over the fits
+//   reached_mark   the mark of a camera that has a fit, by its two nodes
 //   mark_of        a camera's mark, by its flag and its two nodes
 //   read_marks     every camera's
 //   marks_of       both passes
 ghost use mathlib.Core.Path.{_≡_};
-ghost use mathlib.Core.Bool.{_||_, not};
+ghost use mathlib.Core.Bool.{_||_};
 ghost use Prim.Native.Nat.{ℕ, _*_, _≤_};
-ghost use lib.Dec.{ltb, eqb};
+ghost use lib.Dec.{ltb};
 ghost use lib.ListN.{length};
 ghost use Rattle.counting.specs.Tests.{pick, below};
 ghost use Rattle.counting.specs.Pairs.{zipPairs};
@@ -14,7 +15,6 @@ ghost use Rattle.matching.specs.Stock.{isIncluded};
 ghost use Rattle.matching.specs.Flags.{isFlagged};
 ghost use Rattle.matching.specs.DoubledTable.{marksBy};
 ghost use Rattle.pairing.specs.Table.{PairTable, FitTable};
-ghost use Rattle.pairing.specs.Plan.{reachedIn};
 use formats::limits::CAMERAS_MOST;
 
 // Sets the flags of both cameras of each fit, and no other.
@@ -31,13 +31,10 @@ fn flag_fits(flags: &mut [u8], firsts: &[u8], seconds: &[u8])
     }
 }
 
-// The mark of a camera with this flag, 0 where it has no fit, whose two nodes carry these, 0 where they are not reached.
-fn mark_of(fit: u8, outer: u8, inner: u8) -> u8
-    ensures { λ r. ⌜ r ≡ pick (not (eqb fit 0)) (pick (ltb 0 outer) 0 (pick (ltb 0 inner) 1 2)) 3 ⌝ }
+// The mark of a camera that has a fit, by the flags of its two nodes.
+fn reached_mark(outer: u8, inner: u8) -> u8
+    ensures { λ r. ⌜ r ≡ pick (ltb 0 outer) 0 (pick (ltb 0 inner) 1 2) ⌝ }
 {
-    if fit == 0 {
-        return 3;
-    }
     if 0 < outer {
         return 0;
     }
@@ -47,11 +44,21 @@ fn mark_of(fit: u8, outer: u8, inner: u8) -> u8
     2
 }
 
+// The mark of a camera, by its own flag, which is set where it has a fit, and those of its nodes.
+fn mark_of(fit: u8, outer: u8, inner: u8) -> u8
+    ensures { λ r. ⌜ r ≡ pick (ltb 0 fit) (pick (ltb 0 outer) 0 (pick (ltb 0 inner) 1 2)) 3 ⌝ }
+{
+    if 0 < fit {
+        return reached_mark(outer, inner);
+    }
+    3
+}
+
 // The mark of each camera, by its flag and its nodes.
 fn read_marks(flags: &[u8], reached: &[u8], marks: &mut [u8])
     requires { ⌜ length (now marks) ≤ length (now flags) ⌝ }
     requires { ⌜ 2 * length (now marks) ≤ length (now reached) ⌝ }
-    ensures { λ r. ⌜ now (marks .exit) ≡ marksBy (isFlagged (now (flags .entry))) (reachedIn (now (reached .entry))) (below (length (now (marks .entry)))) ⌝ }
+    ensures { λ r. ⌜ now (marks .exit) ≡ marksBy (isFlagged (now (flags .entry))) (isFlagged (now (reached .entry))) (below (length (now (marks .entry)))) ⌝ }
 {
     let mut k: usize = 0;
     // invariant: each mark before k is read; falls: cameras left
@@ -65,7 +72,7 @@ fn read_marks(flags: &[u8], reached: &[u8], marks: &mut [u8])
 pub fn marks_of(firsts: &[u8], seconds: &[u8], reached: &[u8], marks: &mut [u8])
     requires { ⌜ FitTable (length (now marks)) (now firsts) (now seconds) ⌝ }
     requires { ⌜ 2 * length (now marks) ≤ length (now reached) ⌝ }
-    ensures { λ r. ⌜ now (marks .exit) ≡ marksBy (isIncluded (zipPairs (now (firsts .entry)) (now (seconds .entry)))) (reachedIn (now (reached .entry))) (below (length (now (marks .entry)))) ⌝ }
+    ensures { λ r. ⌜ now (marks .exit) ≡ marksBy (isIncluded (zipPairs (now (firsts .entry)) (now (seconds .entry)))) (isFlagged (now (reached .entry))) (below (length (now (marks .entry)))) ⌝ }
 {
     let mut flags = [0u8; CAMERAS_MOST];
     flag_fits(&mut flags, firsts, seconds);

@@ -7,8 +7,8 @@ use denote.Ref.{now}
 use borrow.Author.Needs.{needs}
 use Rattle.counting.specs.Tests.{below}
 use Rattle.counting.specs.Pairs.{zipPairs}
+use Rattle.matching.specs.Flags.{isFlagged}
 use Rattle.matching.specs.DoubledTable.{marksBy}
-use Rattle.pairing.specs.Plan.{reachedIn}
 use Rattle.pairing.proofs.Flagging.{flags-of-fits, fit-cameras}
 use Rattle.pairing.proofs.marks.marks_of.Statement.{statement}
 use Rattle.pairing.proofs.marks.marks_of.Tie as tie
@@ -34,7 +34,7 @@ returns c =
     let S = c .before .before .before .before .before .before .before .before .before .before .before .before in
     let F = c .before .before .before .before .before .before .flag-fits in
     let f = flags-of-fits (zipPairs (now (S .args .firsts)) (now (S .args .seconds))) (F .last .0) (F .ensures) in
-    c .before .before .read-marks .ensures ∙ ap (λ (h : ℕ → Bool). marksBy h (reachedIn (now (S .args .reached))) (below (length (now (S .args .marks))))) f
+    c .before .before .read-marks .ensures ∙ ap (λ (h : ℕ → Bool). marksBy h (isFlagged (now (S .args .reached))) (below (length (now (S .args .marks))))) f
 
 pub marks-of-spec : {M : Type 1} → statement M
 marks-of-spec =

@@ -7,14 +7,13 @@ use denote.Ref.{now}
 use borrow.Author.Needs.{needs}
 use Rattle.matching.specs.Flags.{isFlagged}
 use Rattle.matching.specs.DoubledTable.{markBy}
-use Rattle.pairing.specs.Plan.{reachedIn}
 use Rattle.pairing.proofs.Stores.{filled-more, filled-marks}
 use Rattle.pairing.proofs.marks.read_marks.Statement.{statement}
 use Rattle.pairing.proofs.marks.read_marks.Tie as tie
 
 abbrev Inv-loop : tie.InvT-loop
 Inv-loop flags reached marks₀ k₀ marks k =
-    (k ≤ length marks) × (length marks ≡ length marks₀) × ((j : ℕ) → j < k → getD marks j 0 ≡ markBy (isFlagged flags) (reachedIn reached) j)
+    (k ≤ length marks) × (length marks ≡ length marks₀) × ((j : ℕ) → j < k → getD marks j 0 ≡ markBy (isFlagged flags) (isFlagged reached) j)
 
 abbrev μ-loop : tie.MeasureT-loop
 μ-loop flags reached marks₀ k₀ marks k = length marks - k
@@ -64,7 +63,7 @@ loop-again c =
     let n = length-set (l .marks) (l .k) (r .result) in (
       omega arith,
       n ∙ l .inv .1,
-      filled-more (markBy (isFlagged (now (S .args .flags))) (reachedIn (now (S .args .reached)))) (l .marks) (l .k) (r .result) (omega arith) (l .inv .2) (r .ensures),
+      filled-more (markBy (isFlagged (now (S .args .flags))) (isFlagged (now (S .args .reached)))) (l .marks) (l .k) (r .result) (omega arith) (l .inv .2) (r .ensures),
     )
 
 same-length : tie.Need-same-length Inv-loop μ-loop
@@ -74,7 +73,7 @@ returns : tie.Need-returns Inv-loop μ-loop
 returns c =
     let S = c .before .before .before .before .before in
     let l = c .before .loop in
-    filled-marks (isFlagged (now (S .args .flags))) (reachedIn (now (S .args .reached))) (l .marks) _ (l .inv .1) (λ j h. l .inv .2 j (omega (arith, l .inv .1)))
+    filled-marks (isFlagged (now (S .args .flags))) (isFlagged (now (S .args .reached))) (l .marks) _ (l .inv .1) (λ j h. l .inv .2 j (omega (arith, l .inv .1)))
 
 pub read-marks-spec : {M : Type 1} → statement M
 read-marks-spec =
