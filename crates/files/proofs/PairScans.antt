@@ -1,14 +1,16 @@
 -- Questions put to pairs that stand in two slices, one pair after the other: what is asked of all pairs is what is asked from a place on.
---   named-, mates-, rise-, has-, order-    by question (9, 10, 11 and 12, 13, 9 of a barrier)
+--   named-, mates-, rise-, look-, order-    by question (9, 10, 11 and 12, the look-up of 13, 9 of a barrier)
 --   -step         the pair at the place passes, so that what is asked goes on behind it
---   -first, -second, -turn, -hit    it does not, or it settles the question
+--   -first, -second, -turn, -stop   it does not, or it settles the question
 --   -last, -end   there is none left, or no next one
-use mathlib.Core.Path.{_≡_, _∙_}
+use mathlib.Core.Path.{_≡_, refl, sym, _∙_}
+use mathlib.Core.Logic.{inl, inr, ⊎-elim}
 use mathlib.Core.Bool.{Bool, true, false, and-false}
 use mathlib.Core.List.{List, [], _∷_}
-use Prim.Native.Nat.{ℕ, _+_, _≤_, _<_}
+use Prim.Native.Nat.{ℕ, suc, _+_, _≤_, _<_}
 use native.Mathlib.Omega.{arith}
 use native.Mathlib.Numerals.{add-one}
+use native.Mathlib.Nat.{eq-or-lt-of-le}
 use lib.Dec.{eqb, ltb}
 use borrow.Author.Tests.{eq-eqb, ne-eqb, lt-ltb, le-ltb, le-leb, lt-leb}
 use lib.ListN.{getD, drop}
@@ -17,6 +19,10 @@ use Rattle.counting.specs.Tests.{all}
 use Rattle.counting.specs.Pairs.{Pair, pair, pairsOf, pairNamed}
 use Rattle.skew.specs.Graph.{mate, matesFit}
 use Rattle.matching.specs.Stock.{samePair, hasPair, pairBefore, pairsRise}
+use Rattle.matching.specs.Pairs.{Before}
+use Rattle.matching.specs.LookUp.{lookedAt, looked, isFound, EqualOrLarger}
+use Rattle.matching.proofs.Pairs.{same-pair}
+use Rattle.matching.proofs.LookUp.{looked-step, looked-stop, found-step, found-stop}
 use Rattle.files.specs.Tables.{Holds}
 use Rattle.files.specs.CertificateFile.{namesInOrder}
 use Rattle.files.proofs.Tables.{pairs-next, pairs-none}
@@ -43,9 +49,9 @@ module _ {n : ℕ} {us vs : List ℕ} (r : Holds n us vs) (i : ℕ) where
   unfolding pairsRise
   rise-end h = rw (pairs-none r i h)
 
-  pub has-end : (x : Pair) → n ≤ i → hasPair (from i) x ≡ false
-  unfolding hasPair
-  has-end x h = rw (pairs-none r i h)
+  pub look-end : (y : Pair) → n ≤ i → (isFound (from i) y ≡ false) × (looked (from i) y ≡ 0)
+  unfolding lookedAt hasPair
+  look-end y h = rw (pairs-none r i h) (refl, refl)
 
   pub order-end : n ≤ i → namesInOrder i (from i) ≡ true
   unfolding namesInOrder
@@ -74,13 +80,23 @@ module _ {n : ℕ} {us vs : List ℕ} (r : Holds n us vs) (i : ℕ) where
       pub named-second : b ≤ getD vs i 0 → all (pairNamed b) (from i) ≡ false
       named-second p = all-stop (pairNamed b) (rw (le-ltb _ _ p) (and-false (ltb (getD us i 0) b)))
 
-    pub has-step : (y : Pair) → samePair y x ≡ false → hasPair (from i) y ≡ hasPair (from (i + 1)) y
-    unfolding hasPair
-    has-step y e = rw (pairs-next r i h, e)
+    pub look-step : (y : Pair) → Before x y →
+        (isFound (from i) y ≡ isFound (from (i + 1)) y) × (looked (from i) y ≡ suc (looked (from (i + 1)) y))
+    look-step y b = rw (pairs-next r i h) (found-step x (from (i + 1)) y b, looked-step x (from (i + 1)) y b)
 
-    pub has-hit : (y : Pair) → samePair y x ≡ true → hasPair (from i) y ≡ true
-    unfolding hasPair
-    has-hit y e = rw (pairs-next r i h, e)
+    look-stop : (y : Pair) → EqualOrLarger x y → (isFound (from i) y ≡ samePair y x) × (looked (from i) y ≡ 1)
+    look-stop y l = rw (pairs-next r i h) (found-stop x (from (i + 1)) y l, looked-stop x (from (i + 1)) y l)
+
+    pub look-first : (y : Pair) → y .first ≤ getD us i 0 → (y .first ≡ getD us i 0 → ⊥) → (isFound (from i) y ≡ false) × (looked (from i) y ≡ 1)
+    look-first y p q =
+        let s = look-stop y (inr (inl (⊎-elim (λ e. absurd (q e)) (λ l. l) (eq-or-lt-of-le p)))) in
+        (s .0 ∙ rw (ne-eqb _ _ q), s .1)
+
+    pub look-second : (y : Pair) → y .first ≡ getD us i 0 → y .second ≤ getD vs i 0 →
+        (isFound (from i) y ≡ eqb (y .second) (getD vs i 0)) × (looked (from i) y ≡ 1)
+    look-second y p q =
+        let s = look-stop y (⊎-elim (λ e. inl (same-pair x y (sym p) (sym e))) (λ l. inr (inr (p, l))) (eq-or-lt-of-le q)) in
+        (s .0 ∙ rw (eq-eqb _ _ p), s .1)
 
     pub order-step : getD us i 0 ≡ i → getD vs i 0 ≤ classMost → namesInOrder i (from i) ≡ namesInOrder (i + 1) (from (i + 1))
     unfolding namesInOrder

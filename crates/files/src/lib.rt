@@ -1,4 +1,5 @@
 // Files read and answers written (document 01, "Frames" and "Questions put to a call"). What is read stands in slices that the caller lends.
+//   look_up      a pair looked up among fits
 //   questions    questions 9 to 14, over the numbers of a file
 //   graphs       graph files read
 //   stocks       stock files read
@@ -7,5 +8,6 @@
 pub mod answers;
 pub mod certificates;
 pub mod graphs;
+pub mod look_up;
 mod questions;
 pub mod stocks;

@@ -2,20 +2,22 @@
 // question, by document 03's test.
 //   are_named, are_mated     9 and 10: every number exists; each odd-numbered arc is the mate of the one before
 //   pairs_rise               11 and 12: smaller camera first, rising strictly (comes_before)
-//   are_fits                 13: each lit pair is a fit (has_pair, is_pair)
+//   are_fits                 13: each lit pair is a fit, looked up among fits that rise
 //   none_shared              14: no camera in two pairs
 //   are_below, in_order      9 of a path and of a barrier
+use crate::look_up::look_up;
 use arcs::node::mate_of;
 use arcs::node::wide;
 use formats::limits::CLASS_MOST;
 ghost use mathlib.Core.Path.{_≡_};
+ghost use mathlib.Core.Bool.{true};
 ghost use Prim.Native.Nat.{ℕ, _≤_};
 ghost use lib.Dec.{ltb};
 ghost use lib.ListN.{length, take};
 ghost use Rattle.counting.specs.Tests.{all};
 ghost use Rattle.counting.specs.Pairs.{pair, pairsOf, pairNamed};
 ghost use Rattle.skew.specs.Graph.{matesFit};
-ghost use Rattle.matching.specs.Stock.{samePair, hasPair, noneShared, pairBefore, pairsRise};
+ghost use Rattle.matching.specs.Stock.{hasPair, noneShared, pairBefore, pairsRise};
 ghost use Rattle.files.specs.Tables.{Holds};
 ghost use Rattle.files.specs.CertificateFile.{namesInOrder};
 
@@ -95,32 +97,7 @@ pub fn pairs_rise(firsts: &[u8], seconds: &[u8], count: usize) -> bool
     true
 }
 
-fn is_pair(u: u8, v: u8, x: u8, y: u8) -> bool
-    ensures { λ r. ⌜ r ≡ samePair (pair u v) (pair x y) ⌝ }
-{
-    if u != x {
-        return false;
-    }
-    v == y
-}
-
-// Is (u, v) one of the pairs? It looks at each in turn up to the one that is equal: at most all of them.
-fn has_pair(firsts: &[u8], seconds: &[u8], count: usize, u: u8, v: u8) -> bool
-    requires { ⌜ Holds count (now firsts) (now seconds) ⌝ }
-    ensures { λ r. ⌜ r ≡ hasPair (pairsOf count (now (firsts .entry)) (now (seconds .entry))) (pair u v) ⌝ }
-{
-    let mut i: usize = 0;
-    // invariant: the answer is `hasPair` of what stands from i on; falls: pairs left
-    while i < count {
-        if is_pair(u, v, firsts[i], seconds[i]) {
-            return true;
-        }
-        i += 1;
-    }
-    false
-}
-
-// 13: is each lit pair a fit?
+// 13, of fits that rise: is each lit pair a fit?
 pub fn are_fits(
     firsts: &[u8],
     seconds: &[u8],
@@ -129,13 +106,14 @@ pub fn are_fits(
     others: &[u8],
     lit: usize,
 ) -> bool
-    requires { ⌜ Holds fits (now firsts) (now seconds) × Holds lit (now ones) (now others) ⌝ }
+    requires { ⌜ Holds fits (now firsts) (now seconds) × Holds lit (now ones) (now others) × (pairsRise (pairsOf fits (now firsts) (now seconds)) ≡ true) ⌝ }
     ensures { λ r. ⌜ r ≡ all (hasPair (pairsOf fits (now (firsts .entry)) (now (seconds .entry)))) (pairsOf lit (now (ones .entry)) (now (others .entry))) ⌝ }
 {
     let mut i: usize = 0;
     // invariant: the answer is `all (hasPair fits)` of what stands from i on; falls: lit pairs left
     while i < lit {
-        if !has_pair(firsts, seconds, fits, ones[i], others[i]) {
+        let answer = look_up(firsts, seconds, fits, ones[i], others[i]);
+        if !answer.found {
             return false;
         }
         i += 1;

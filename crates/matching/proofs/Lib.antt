@@ -1,6 +1,7 @@
 -- Laws of the theory, by subject; each file stands on those above it.
 --   Pairs            lists of pairs, their ends, and the tests of Stock
 --   Rising           rising lists of pairs
+--   LookUp           the look-up of a pair among fits
 --   Matchings        pairings as involutions and as lists, both ways, with lengths
 --   InOrder          the pairs of a matching camera by camera
 --   Greatest         the greatest number of pairs and the cameras left over, by all pairings
@@ -19,6 +20,7 @@
 --   Promises         the promises, kept
 pub mod Pairs
 pub mod Rising
+pub mod LookUp
 pub mod Matchings
 pub mod InOrder
 pub mod Greatest

@@ -1,5 +1,6 @@
 -- Lists of pairs, and the tests of Stock that speak of them.
 --   same-pair                             pairs with the same numbers are one
+--   same-is, is-same                      samePair: one pair
 --   has-pair-in, in-has-pair              hasPair: an element
 --   in-ends, ends-in, length-ends         ends: the cameras of the elements
 --   included-end, end-included            isIncluded: one of the ends
@@ -25,19 +26,25 @@ use Rattle.matching.specs.Pairs.{EndOf}
 pub same-pair : (x y : Pair) → x .first ≡ y .first → x .second ≡ y .second → x ≡ y
 same-pair x y p q = ap (λ (u : ℕ). pair u (x .second)) p ∙ ap (λ (v : ℕ). pair (y .first) v) q
 
+pub same-is : (x y : Pair) → samePair x y ≡ true → x ≡ y
+same-is x y e =
+    let r = and-two (eqb (x .first) (y .first)) (eqb (x .second) (y .second)) e in
+    same-pair x y (eqb-true _ _ (r .0)) (eqb-true _ _ (r .1))
+
+pub is-same : (x y : Pair) → x ≡ y → samePair x y ≡ true
+is-same x y e =
+    rw (eq-eqb (x .first) (y .first) (ap (λ (z : Pair). z .first) e), eq-eqb (x .second) (y .second) (ap (λ (z : Pair). z .second) e))
+
 pub has-pair-in : (xs : List Pair) (x : Pair) → hasPair xs x ≡ true → In x xs
 unfolding hasPair
 has-pair-in [] x e = true-false e refl
 has-pair-in (y ∷ ys) x e =
-    ⊎-elim
-    (λ t. let r = and-two (eqb (x .first) (y .first)) (eqb (x .second) (y .second)) t in inl (same-pair x y (eqb-true _ _ (r .0)) (eqb-true _ _ (r .1))))
-    (λ t. inr (has-pair-in ys x t)) (or-cases (samePair x y) (hasPair ys x) e)
+    ⊎-elim (λ t. inl (same-is x y t)) (λ t. inr (has-pair-in ys x t)) (or-cases (samePair x y) (hasPair ys x) e)
 
 pub in-has-pair : (xs : List Pair) (x : Pair) → In x xs → hasPair xs x ≡ true
 unfolding hasPair
 in-has-pair [] x m = absurd m
-in-has-pair (y ∷ ys) x (inl e) =
-    rw (eq-eqb (x .first) (y .first) (ap (λ (z : Pair). z .first) e), eq-eqb (x .second) (y .second) (ap (λ (z : Pair). z .second) e))
+in-has-pair (y ∷ ys) x (inl e) = rw (is-same x y e)
 in-has-pair (y ∷ ys) x (inr m) = or-right (samePair x y) (hasPair ys x) (in-has-pair ys x m)
 
 -- ENDS

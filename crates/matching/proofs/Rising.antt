@@ -1,31 +1,35 @@
--- Rising lists of pairs.
+-- Rising lists of pairs, and the order in which they rise.
+--   before-is, is-before          the test pairBefore
+--   before-not                    of two pairs only one stands before the other
+--   not-before                    what is not before a pair is it, or stands behind it
 --   rise-rising, rising-rise      the test pairsRise
 --   rising-ordered                the smaller camera first
 --   keep-rising                   what a test keeps rises
 --   rising-same                   rising lists with the same elements are one
 use mathlib.Core.Path.{_≡_, refl, sym, ap, subst, _∙_}
-use mathlib.Core.Logic.{inl, inr, ⊎-elim}
-use mathlib.Core.Bool.{Bool, true, _&&_}
+use mathlib.Core.Logic.{_⊎_, inl, inr, ⊎-elim}
+use mathlib.Core.Bool.{Bool, true, false, _&&_}
 use mathlib.Core.List.{List, [], _∷_}
-use Prim.Native.Nat.{_<_}
+use Prim.Native.Nat.{_≤_, _<_}
 use native.Mathlib.Omega.{arith}
 use lib.Dec.{ltb, eqb}
-use borrow.Author.Tests.{eqb-true, eq-eqb, ltb-true, lt-ltb}
+use borrow.Author.Tests.{eqb-true, eq-eqb, ltb-true, ltb-false, lt-ltb}
 use Rattle.counting.specs.Tests.{keep}
 use Rattle.counting.specs.Lists.{In}
 use Rattle.counting.specs.Pairs.{Pair}
-use Rattle.counting.proofs.Booleans.{and-two, and-three, and-both, or-right, or-cases, by-test}
+use Rattle.counting.proofs.Booleans.{and-two, and-three, and-both, or-right, or-cases, or-false-left, or-false-right, by-test}
 use Rattle.counting.proofs.Kept.{in-keep}
 use Rattle.matching.specs.Stock.{pairBefore, pairsRise}
 use Rattle.matching.specs.Pairs.{Before, Rising}
+use Rattle.matching.proofs.Pairs.{same-pair}
 
-before-is : (x y : Pair) → pairBefore x y ≡ true → Before x y
+pub before-is : (x y : Pair) → pairBefore x y ≡ true → Before x y
 before-is x y e =
     ⊎-elim (λ t. inl (ltb-true _ _ t))
     (λ t. let r = and-two (eqb (x .first) (y .first)) (ltb (x .second) (y .second)) t in inr (eqb-true _ _ (r .0), ltb-true _ _ (r .1)))
     (or-cases (ltb (x .first) (y .first)) (eqb (x .first) (y .first) && ltb (x .second) (y .second)) e)
 
-is-before : (x y : Pair) → Before x y → pairBefore x y ≡ true
+pub is-before : (x y : Pair) → Before x y → pairBefore x y ≡ true
 is-before x y (inl h) = rw (lt-ltb (x .first) (y .first) h)
 is-before x y (inr h) =
     or-right (ltb (x .first) (y .first)) _ (and-both _ _ (eq-eqb (x .first) (y .first) (h .0)) (lt-ltb (x .second) (y .second) (h .1)))
@@ -36,11 +40,23 @@ before-trans x y z (inl h) (inr k) = inl (omega (arith, k .0))
 before-trans x y z (inr h) (inl k) = inl (omega (arith, h .0))
 before-trans x y z (inr h) (inr k) = inr (h .0 ∙ k .0, omega (arith, h .1, k .1))
 
-before-not : (x y : Pair) → Before x y → Before y x → ⊥
+pub before-not : (x y : Pair) → Before x y → Before y x → ⊥
 before-not x y (inl a) (inl b) = omega arith
 before-not x y (inl a) (inr b) = omega (arith, b .0)
 before-not x y (inr a) (inl b) = omega (arith, a .0)
 before-not x y (inr a) (inr b) = omega (arith, a .1, b .1)
+
+pub not-before : (y x : Pair) → pairBefore y x ≡ false → (y ≡ x) ⊎ Before x y
+not-before y x e =
+    let p : x .first ≤ y .first = ltb-false (y .first) (x .first) (or-false-left (ltb (y .first) (x .first)) _ e) in
+    by-test (ltb (x .first) (y .first)) (λ t. inr (inl (ltb-true _ _ t)))
+    (λ t.
+    let q : y .first ≡ x .first = let l = ltb-false (x .first) (y .first) t in omega arith in
+    let r : ltb (y .second) (x .second) ≡ false =
+    rw (eq-eqb (y .first) (x .first) q) at (or-false-right (ltb (y .first) (x .first)) (eqb (y .first) (x .first) && ltb (y .second) (x .second)) e) in
+    let s : x .second ≤ y .second = ltb-false (y .second) (x .second) r in
+    by-test (ltb (x .second) (y .second)) (λ u. inr (inr (sym q, ltb-true _ _ u)))
+    (λ u. inl (same-pair y x q (let l = ltb-false (x .second) (y .second) u in omega arith))))
 
 pub rise-rising : (xs : List Pair) → pairsRise xs ≡ true → Rising xs
 unfolding pairsRise

@@ -6,6 +6,7 @@
 --   Rotation        rotation of a matching, and along a path
 --   Row             a pairing as a row of partners
 --   Flags           a table of flags
+--   LookUp          the look-up of a pair among fits
 --   DoubledTable    the doubled table of a matching, a skew-symmetric graph
 --   Certificate     the Gallai-Edmonds decomposition
 pub mod Stock
@@ -15,5 +16,6 @@ pub mod Matching
 pub mod Rotation
 pub mod Row
 pub mod Flags
+pub mod LookUp
 pub mod DoubledTable
 pub mod Certificate

@@ -1,6 +1,7 @@
 // Theory without code: pairings of cameras, largest pairings, marks and plans (document 001, section 2.1).
 //   specs/Stock, Promise                 the definitions of document 03, with the marks of document 02's L2, and what is promised of every well-formed stock
 //   proofs/Promises                      the greatest number of pairs and the marks, by all pairings; some plan for every stock
+//   specs/LookUp, proofs/LookUp          the look-up of a pair among fits (document 02, L3): what it finds, and how many fits it looks at
 // Why a pairing without an augmenting path is largest (Gallai and Edmonds):
 //   specs/Matching, DoubledTable         A pairing is an involution p on cameras. Its doubled table is a skew-symmetric graph: camera k is 2k and 2k+1.
 //   specs/Rotation, proofs/Augmentation  A path of this graph from the source to its mate is an augmenting path: rotations along it turn p into a pairing

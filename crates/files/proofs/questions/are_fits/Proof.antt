@@ -7,6 +7,7 @@ use lib.ListN.{drop}
 use Rattle.counting.specs.Tests.{all}
 use Rattle.matching.specs.Stock.{hasPair}
 use Rattle.counting.specs.Pairs.{pairsOf}
+use Rattle.matching.proofs.LookUp.{look-finds}
 use Rattle.files.proofs.PairScans.{all-end, all-step, all-stop}
 use Rattle.files.proofs.questions.are_fits.Statement.{statement}
 use Rattle.files.proofs.questions.are_fits.Tie as tie
@@ -24,11 +25,11 @@ loop-holds c = (omega arith, refl)
 
 returns : tie.Need-returns Inv-loop μ-loop
 returns c =
-    sym (c .before .before .before .before .before .loop .inv .1 ∙ all-stop (c .before .before .before .before .before .before .before .before .before .before .pre .1) _ (c .before .before .before .before .loop-test .taken) (hasPair _) (sym (c .before .has-pair .ensures) ∙ not-true _ (c .if1 .taken)))
+    sym (c .before .before .before .before .before .before .loop .inv .1 ∙ all-stop (c .before .before .before .before .before .before .before .before .before .before .before .pre .1) _ (c .before .before .before .before .before .loop-test .taken) (hasPair _) (sym (c .before .before .look-up .ensures .answer ∙ look-finds _ _ (c .before .before .before .before .before .before .before .before .before .before .before .pre .2)) ∙ not-true _ (c .if1 .taken)))
 
 loop-again : tie.Need-loop-again Inv-loop μ-loop
 loop-again c =
-    (omega arith, c .before .before .before .before .before .loop .inv .1 ∙ all-step (c .before .before .before .before .before .before .before .before .before .before .pre .1) _ (c .before .before .before .before .loop-test .taken) (hasPair _) (sym (c .before .has-pair .ensures) ∙ not-false _ (c .if1 .left)))
+    (omega arith, c .before .before .before .before .before .before .loop .inv .1 ∙ all-step (c .before .before .before .before .before .before .before .before .before .before .before .pre .1) _ (c .before .before .before .before .before .loop-test .taken) (hasPair _) (sym (c .before .before .look-up .ensures .answer ∙ look-finds _ _ (c .before .before .before .before .before .before .before .before .before .before .before .pre .2)) ∙ not-false _ (c .if1 .left)))
 
 returns-2 : tie.Need-returns-2 Inv-loop μ-loop
 returns-2 c =

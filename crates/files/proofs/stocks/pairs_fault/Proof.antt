@@ -42,6 +42,10 @@ returns-3 c = sym (refused 11 (asked (c .before .before .before .before .before 
 returns-4 : tie.Need-returns-4
 returns-4 c = sym (refused 12 (asked (c .before .before .before .before .before .before .before .before .before .before .before .before)) (rw (yes-9 (c .before .before .before .before), yes-11 (c .before .before))) (sym (c .before .pairs-rise2 .ensures) ∙ not-true _ (c .if4 .taken)))
 
+-- question 13 is put to fits that rise
+are-fits-requires : tie.Need-are-fits-requires
+are-fits-requires c κs = let held = c .before .before .before .before .before .before .before .before .before .before .before .before .pre in (held .0, held .1, yes-11 (c .before .before))
+
 returns-5 : tie.Need-returns-5
 returns-5 c = sym (refused 13 (asked (c .before .before .before .before .before .before .before .before .before .before .before .before .before .before)) (rw (yes-9 (c .before .before .before .before .before .before), yes-11 (c .before .before .before .before), yes-12 (c .before .before))) (sym (c .before .are-fits .ensures) ∙ not-true _ (c .if5 .taken)))
 
@@ -64,7 +68,7 @@ pairs-fault-spec =
     returns-3
     (λ c κs. search needs)
     returns-4
-    (λ c κs. search needs)
+    are-fits-requires
     returns-5
     (λ c κs. search needs)
     returns-6
