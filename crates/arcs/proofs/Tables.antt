@@ -20,7 +20,7 @@ module _ (n s : ℕ) (ts hs : List ℕ) where
   g = graphOf n s ts hs
 
   pub in-arcs : (i : ℕ) → i < length (g .arcs) → i < length ts
-  in-arcs i h = omega (arith, zip-low ts hs)
+  in-arcs i h = omega (arith, zip-low ts hs .0)
 
   pub tail-is : (i : ℕ) → i < length (g .arcs) → tail g i ≡ getD ts i 0
   tail-is i h = ap (λ (x : Pair). x .first) (zip-within ts hs i h)

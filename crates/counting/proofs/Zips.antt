@@ -1,6 +1,8 @@
 -- Two lists, mostly of one length, pair by pair; and the first and second numbers of pairs.
---   zip-length      as many pairs
---   zip-low         never more than the first list has
+--   zip-first, zip-second    as many pairs as the shorter list has numbers
+--   zip-length      as many pairs as each has, where both have as many
+--   zip-low         never more than either list has
+--   zip-whole       the first so many pairs are all of them
 --   zip-within, zip-at    the pair at a place: what both lists have there
 --   zip-seconds     the second numbers of what was zipped
 --   firsts-length, seconds-length    as many numbers as pairs
@@ -16,17 +18,33 @@ use lib.Seq.{sets}
 use Rattle.counting.specs.Pairs.{Pair, pair, noPair, firstsOf, secondsOf, zipPairs, pairsOf}
 use Rattle.counting.proofs.Stores.{take-sets}
 
-pub zip-length : (xs ys : List ℕ) → length ys ≡ length xs → length (zipPairs xs ys) ≡ length xs
+pub zip-first : (xs ys : List ℕ) → length xs ≤ length ys → length (zipPairs xs ys) ≡ length xs
 unfolding zipPairs
-zip-length [] ys e = refl
-zip-length (x ∷ xs) [] e = absurd (omega arith)
-zip-length (x ∷ xs) (y ∷ ys) e = ap suc (zip-length xs ys (omega arith))
+zip-first [] ys h = refl
+zip-first (x ∷ xs) [] h = absurd (omega arith)
+zip-first (x ∷ xs) (y ∷ ys) h = ap suc (zip-first xs ys (omega arith))
 
-pub zip-low : (xs ys : List ℕ) → length (zipPairs xs ys) ≤ length xs
+pub zip-second : (xs ys : List ℕ) → length ys ≤ length xs → length (zipPairs xs ys) ≡ length ys
 unfolding zipPairs
-zip-low [] ys = omega arith
-zip-low (x ∷ xs) [] = omega arith
-zip-low (x ∷ xs) (y ∷ ys) = let r = zip-low xs ys in omega arith
+zip-second [] [] h = refl
+zip-second [] (y ∷ ys) h = absurd (omega arith)
+zip-second (x ∷ xs) [] h = refl
+zip-second (x ∷ xs) (y ∷ ys) h = ap suc (zip-second xs ys (omega arith))
+
+pub zip-length : (xs ys : List ℕ) → length ys ≡ length xs → length (zipPairs xs ys) ≡ length xs
+zip-length xs ys e = zip-first xs ys (omega arith)
+
+pub zip-low : (xs ys : List ℕ) → (length (zipPairs xs ys) ≤ length xs) × (length (zipPairs xs ys) ≤ length ys)
+unfolding zipPairs
+zip-low [] ys = (omega arith, omega arith)
+zip-low (x ∷ xs) [] = (omega arith, omega arith)
+zip-low (x ∷ xs) (y ∷ ys) = let r = zip-low xs ys in (omega arith, omega arith)
+
+pub zip-whole : (xs ys : List ℕ) → pairsOf (length (zipPairs xs ys)) xs ys ≡ zipPairs xs ys
+unfolding zipPairs
+zip-whole [] ys = refl
+zip-whole (x ∷ xs) [] = refl
+zip-whole (x ∷ xs) (y ∷ ys) = ap (λ (l : List Pair). pair x y ∷ l) (zip-whole xs ys)
 
 pub zip-within : (xs ys : List ℕ) (i : ℕ) → i < length (zipPairs xs ys) → getD (zipPairs xs ys) i noPair ≡ pair (getD xs i 0) (getD ys i 0)
 unfolding zipPairs
