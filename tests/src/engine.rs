@@ -1,7 +1,8 @@
-//! The engine as the tests see it: document 01's calls.
+//! The engine as the tests see it: document 01's calls, and document 02's look-up.
 //!   Tally, Told, Verdict     the counts; a call's refusal number and answer size; what the check says
-//!   Engine                   the four calls
-//!   linked, Library          the proved engine in its static library (only where it is linked, see build.rs)
+//!   Fit, Looked              two cameras as the look-up takes them; what it answers
+//!   Engine                   the four calls, and the look-up
+//!   linked, Library          the proved engine in its static libraries (only where they are linked, see build.rs)
 
 #[derive(Clone, Copy, Debug, Default, PartialEq)]
 pub struct Tally {
@@ -25,14 +26,26 @@ pub enum Verdict {
     No,
 }
 
+/// The first camera, then the second.
+pub type Fit = (u8, u8);
+
+/// Whether the pair is found, and how many fits were looked at.
+#[derive(Clone, Copy, Debug, PartialEq)]
+pub struct Looked {
+    pub found: bool,
+    pub looked: u64,
+}
+
 pub trait Engine {
     fn answer_graph(&self, file: &[u8], out: &mut [u8], tally: &mut Tally) -> Told;
     fn plan(&self, file: &[u8], out: &mut [u8], tally: &mut Tally) -> Told;
     fn sheet(&self, file: &[u8], out: &mut [u8], tally: &mut Tally) -> Told;
     fn check(&self, graph: &[u8], certificate: &[u8]) -> Verdict;
+    /// A pair sought among fits: their first cameras stand in one slice, their second ones in the other, up to the shorter length.
+    fn look_up(&self, firsts: &[u8], seconds: &[u8], sought: Fit) -> Looked;
 }
 
-/// The proved engine, where it is linked, and the file that was linked.
+/// The proved engine, where it is linked, and the files that were linked.
 #[cfg(lanes_library)]
 pub fn linked() -> Option<(Box<dyn Engine>, &'static str)> {
     Some((Box::new(library::Library), env!("LANES_LINKED")))
@@ -43,12 +56,14 @@ pub fn linked() -> Option<(Box<dyn Engine>, &'static str)> {
     None
 }
 
-/// The library's C functions (crates/lanes_c/include/lanes.h), each slice a pointer and a length, and a safe function over each.
+/// The libraries' C functions (crates/lanes_c/include/lanes.h, and the look-up), each slice a pointer and a length, and a safe function
+/// over each.
 /// A call returns its number in the lowest byte and its size above; its tally is four counts: paths, barriers, stocks, refusals.
 /// The check returns 1 for yes, 0 for no, and otherwise the refusal, which is never below 2.
+/// The look-up returns 1 where the pair is found, 0 where not, and writes how many fits it looked at.
 #[cfg(lanes_library)]
 mod library {
-    use super::{Engine, Tally, Told, Verdict};
+    use super::{Engine, Fit, Looked, Tally, Told, Verdict};
 
     type Call = unsafe extern "C" fn(*const u8, usize, *mut u8, usize, *mut [u32; 4]) -> u64;
 
@@ -57,9 +72,21 @@ mod library {
         fn lanes_plan(file: *const u8, file_len: usize, out: *mut u8, out_len: usize, tally: *mut [u32; 4]) -> u64;
         fn lanes_sheet(file: *const u8, file_len: usize, out: *mut u8, out_len: usize, tally: *mut [u32; 4]) -> u64;
         fn lanes_check(graph: *const u8, graph_len: usize, certificate: *const u8, certificate_len: usize) -> u8;
+        fn files_look_up(
+            firsts: *const u8,
+            firsts_len: usize,
+            seconds: *const u8,
+            seconds_len: usize,
+            first: u8,
+            second: u8,
+            looked: *mut [u64; 1],
+        ) -> u8;
     }
 
     pub struct Library;
+
+    /// What stands in the place of the look-up's number before the call, and before and after that place.
+    const UNTOUCHED: u64 = 0xA5A5_A5A5_A5A5_A5A5;
 
     fn call(function: Call, file: &[u8], out: &mut [u8], tally: &mut Tally) -> Told {
         let mut counts = [tally.paths, tally.barriers, tally.stocks, tally.refusals];
@@ -91,6 +118,19 @@ mod library {
                 1 => Verdict::Yes,
                 refusal => Verdict::Refused(refusal),
             }
+        }
+
+        fn look_up(&self, firsts: &[u8], seconds: &[u8], (first, second): Fit) -> Looked {
+            let mut numbers = [UNTOUCHED; 3];
+            // as above; the number is the one in the middle
+            let said = unsafe {
+                let looked = numbers.as_mut_ptr().add(1).cast();
+                files_look_up(firsts.as_ptr(), firsts.len(), seconds.as_ptr(), seconds.len(), first, second, looked)
+            };
+            let [before, looked, after] = numbers;
+            assert!(said <= 1, "the look-up returns {said}");
+            assert!(before == UNTOUCHED && after == UNTOUCHED, "the look-up writes beside its number");
+            Looked { found: said == 1, looked }
         }
     }
 }

@@ -11,7 +11,10 @@ use crate::judge::{Judge, Trial};
 use crate::programs::Programs;
 use crate::random::Random;
 use crate::seen::Seen;
-use crate::{cases, damage, exhaustive, isolated_trials, large, line_end_trials, program_trials, self_checks, sizes, trials};
+use crate::{
+    cases, damage, exhaustive, isolated_trials, large, line_end_trials, lit_pair_trials, look_up_trials, program_trials,
+    self_checks, sizes, trials,
+};
 use std::panic::{catch_unwind, AssertUnwindSafe};
 
 pub struct Group<T> {
@@ -56,6 +59,7 @@ const fn share(name: &'static str, of_a_thousand: usize, tried: fn(&mut Judge, u
 pub fn of_trial() -> Vec<EngineGroup> {
     vec![
         fixed("lines cut agree with bytes read one by one", self_checks::lines_agree),
+        share("look-ups by places agree with the number of smaller fits", 100, self_checks::look_ups_agree),
         share("all pairings agree with the blossom algorithm", 200, self_checks::pairings_agree),
         share("marks are document 01's but for isolated cameras", 100, self_checks::marks_agree),
         share("the bound of Tutte and Berge is met", 10, self_checks::bounds_are_met),
@@ -72,6 +76,8 @@ pub fn of_engine() -> Vec<EngineGroup> {
         fixed("the folder examples/", cases::examples_folder),
         fixed("tallies", cases::tallies),
         fixed("traps", cases::traps),
+        fixed("look-ups: known ones", look_up_trials::known),
+        fixed("lit pairs: known stocks", lit_pair_trials::known),
         drawn("isolated cameras: known sheets", isolated_trials::known_sheets),
         fixed("isolated cameras: equal sheets", isolated_trials::equal_sheets),
         share("isolated cameras: other lit pairs", 10, isolated_trials::other_lit_pairs),
@@ -82,6 +88,8 @@ pub fn of_engine() -> Vec<EngineGroup> {
         drawn("known files with every choice of line ends", line_end_trials::known_files),
         drawn("the largest certificates with CR LF", line_end_trials::largest_certificates),
         fixed("truncated files", damage::truncated_files),
+        fixed("look-ups: 65,536 fits", look_up_trials::around_two_bytes),
+        fixed("lit pairs: many of them, or of many fits", lit_pair_trials::many_pairs),
         share("single faults", 30, trials::single_faults),
         share("pairs of faults", 50, trials::pairs_of_faults),
         drawn("faults in both files of a check", trials::faults_in_both_files),
@@ -89,6 +97,17 @@ pub fn of_engine() -> Vec<EngineGroup> {
         fixed("points left to the reader", cases::points_left_to_the_reader),
         drawn("60,000 bytes with CR LF", line_end_trials::lengths),
         drawn("isolated cameras beside 3,900 fits", isolated_trials::three_apart),
+        drawn("lit pairs: beside 3,900 fits", lit_pair_trials::beside_3900_fits),
+        share("lit pairs: all of them fits", 5, lit_pair_trials::fits_lit),
+        share("lit pairs: no fit in each place", 5, lit_pair_trials::no_fit_in_each_place),
+        share("look-ups: answers compared", 10, look_up_trials::answers_compared),
+        share("look-ups: short lists", 100, look_up_trials::short_lists),
+        share("look-ups: lists that do not rise", 100, look_up_trials::other_lists),
+        share("look-ups: long lists", 10, look_up_trials::long_lists),
+        drawn("look-ups: every place of 3,900 fits", look_up_trials::most_fits),
+        fixed("look-ups: every list of rising fits over five cameras", look_up_trials::every_rising_list),
+        fixed("look-ups: every short list", look_up_trials::every_short_list),
+        fixed("lit pairs: every set among up to four cameras", lit_pair_trials::every_set),
         share("certificates", 100, trials::certificates),
         fixed("certificates damaged at every byte", damage::damaged_certificates),
         fixed("files damaged at every byte", damage::damaged_files),
@@ -164,7 +183,7 @@ pub fn run(group: &EngineGroup, engine: &dyn Engine, seed: u64, files: usize) ->
         Tried::Whole(tried) => tried(&mut judge),
         Tried::Share(of_a_thousand, tried) => tried(&mut judge, (files * of_a_thousand).div_ceil(1_000)),
     });
-    if judge.seen.calls + judge.seen.compared == 0 {
+    if judge.seen.calls + judge.seen.compared + judge.seen.look_ups == 0 {
         outcome = outcome.and(Err("nothing was tried".to_string()));
     }
     (judge.seen, outcome)

@@ -9,16 +9,21 @@
 //!   check, certificate    two files handed to the check; the second counted as a file tried
 //!   certificate_all_ways  the same with all line ends in both
 //!   in_a_row              calls on one tally
+//!   look_up, look_up_in   a pair looked up among fits, or among those that two slices give, and judged
+//!   looked_up             what a look-up answers, not judged
 //!   Trial                 done, or what went wrong and on which file
 
-use crate::engine::{Engine, Tally, Told, Verdict};
+use crate::engine::{Engine, Fit, Looked, Tally, Told, Verdict};
+use crate::fit_lists::{joined, parted};
 use crate::frames::GREATEST_FILE;
 use crate::graph_trial::{self, Graph};
 use crate::line_ends::all_ways;
 use crate::random::Random;
 use crate::seen::{Came, Seen};
 use crate::stock_trial::{self, Stock};
-use crate::truth::{graph_owed, graph_truth, opening, plan_owed, sheet_owed, stock_truth, Count, GraphTruth, Owed, StockTruth};
+use crate::truth::{
+    graph_owed, graph_truth, look_up_owed, opening, plan_owed, sheet_owed, stock_truth, Count, GraphTruth, Owed, StockTruth,
+};
 
 pub type Trial = Result<(), String>;
 
@@ -206,6 +211,31 @@ impl<'a> Judge<'a> {
         Ok(())
     }
 
+    pub fn look_up(&mut self, fits: &[Fit], sought: Fit) -> Trial {
+        let (firsts, seconds) = parted(fits);
+        self.look_up_in(&firsts, &seconds, sought)
+    }
+
+    pub fn look_up_in(&mut self, firsts: &[u8], seconds: &[u8], sought: Fit) -> Trial {
+        let owed = look_up_owed(&joined(firsts, seconds), sought);
+        let said = self.looked_up(firsts, seconds, sought);
+        if said == owed {
+            return Ok(());
+        }
+        Err(format!("{sought:?} looked up: {said:?} where {owed:?} is owed\n{}", shown_fits(firsts, seconds)))
+    }
+
+    /// The cameras sought stand right before and right behind the slices, where nothing is to be read.
+    pub fn looked_up(&mut self, firsts: &[u8], seconds: &[u8], sought: Fit) -> Looked {
+        self.seen.look_up(&joined(firsts, seconds), firsts.len() == seconds.len(), sought);
+        let margin = 1 + self.random.below(16);
+        let within = |camera: u8, cameras: &[u8]| [&vec![camera; margin], cameras, &[camera; MARGIN]].concat();
+        let (around_firsts, around_seconds) = (within(sought.0, firsts), within(sought.1, seconds));
+        let firsts = &around_firsts[margin..margin + firsts.len()];
+        let seconds = &around_seconds[margin..margin + seconds.len()];
+        self.engine.look_up(firsts, seconds, sought)
+    }
+
     /// One call with a buffer of a size. Returns the answer, empty for a refusal.
     pub fn lend(&mut self, call: Call, file: &[u8], room: usize, owed: &Owed) -> Result<Vec<u8>, String> {
         let (number, count) = if room < LEAST_ROOM { (1, Count::Refusals) } else { (owed.number, owed.count) };
@@ -312,4 +342,11 @@ pub fn shown(file: &[u8]) -> String {
     let start = String::from_utf8_lossy(&file[..file.len().min(MOST)]).replace('\r', "<CR>");
     let rest = if file.len() > MOST { format!("\n.. {} bytes in all\n", file.len()) } else { String::new() };
     format!("{start}{rest}")
+}
+
+/// The beginning of two slices of cameras, for messages.
+pub fn shown_fits(firsts: &[u8], seconds: &[u8]) -> String {
+    const MOST: usize = 200;
+    let start = |cameras: &[u8]| format!("{:?} ({} in all)\n", &cameras[..cameras.len().min(MOST)], cameras.len());
+    format!("first cameras {}second cameras {}", start(firsts), start(seconds))
 }

@@ -7,14 +7,16 @@
 //!   blossom          maximum matchings of any size
 //!   arc_matching     regular paths of any size, by matchings
 //!   truth            what the documents say of a file
-//!   engine           the calls, and the proved engine where it is linked
+//!   engine           the calls, the look-up, and the proved engine where it is linked
 //!   reference        an engine made of the trial's parts
 //!   wrong, slips     engines with one part wrong
 //!   wrong_line_ends  engines that take line ends wrongly
 //!   wrong_isolated   engines that mark cameras without a fit wrongly
+//!   wrong_look_ups   engines that look up a pair wrongly, or ask wrongly whether lit pairs are fits
 //!   judge            a call judged whole: result, buffer, tally
 //!   seen             what was tried, counted
 //!   generate         random graphs and stocks
+//!   fit_lists        lists of fits, and pairs to look up in them
 //!   faults           files that fail chosen questions
 //!   known            document 01's known graphs and stocks, and stocks with isolated cameras
 //!   cases            document 01's examples, edges and traps
@@ -26,6 +28,8 @@
 //!   large            the largest files
 //!   line_end_trials  line ends: every choice, wrong ones, damaged ones, and lengths
 //!   isolated_trials  cameras without a fit: known sheets, sheets compared, every set of them
+//!   look_up_trials   a pair looked up among fits: whether it is found, and how many are looked at
+//!   lit_pair_trials  lit pairs that are fits, and such as are none
 //!   prints           what the programs print
 //!   programs         the programs, run and judged
 //!   stand_in         this binary in a program's place
@@ -43,6 +47,7 @@ pub mod damage;
 pub mod engine;
 pub mod exhaustive;
 pub mod faults;
+pub mod fit_lists;
 pub mod frames;
 pub mod generate;
 pub mod graph_trial;
@@ -53,6 +58,8 @@ pub mod known;
 pub mod large;
 pub mod line_end_trials;
 pub mod line_ends;
+pub mod lit_pair_trials;
+pub mod look_up_trials;
 pub mod options;
 pub mod prints;
 pub mod program_trials;
@@ -72,4 +79,5 @@ pub mod truth;
 pub mod wrong;
 pub mod wrong_isolated;
 pub mod wrong_line_ends;
+pub mod wrong_look_ups;
 pub mod wrong_programs;

@@ -3,10 +3,11 @@
 //!   GraphAnswer       a path or a barrier's classes
 //!   Parts             the engine as a record of its parts
 //!   Parts::right      each part as the documents say
+//!   answer .. look_up    those of them that wrong ones are made from
 
 use crate::arc_matching;
 use crate::blossom;
-use crate::engine::{Engine, Tally, Told, Verdict};
+use crate::engine::{Engine, Fit, Looked, Tally, Told, Verdict};
 use crate::frames::{barrier_file, path_file, plan_file, sheet_file, Pair};
 use crate::graph_trial::{self, canonical, Certificate, Graph};
 use crate::stock_trial::{self, Standing, Stock};
@@ -27,6 +28,7 @@ impl GraphAnswer {
 
 /// What a file holds, or the number that refuses it.
 pub type Reader<T> = Box<dyn Fn(&[u8]) -> Result<T, u8>>;
+pub type LookUp = Box<dyn Fn(&[u8], &[u8], Fit) -> Looked>;
 pub type CertificateReader = Box<dyn Fn(&Graph, &[u8]) -> Result<Certificate, u8>>;
 
 pub struct Parts {
@@ -45,6 +47,8 @@ pub struct Parts {
     pub ends: fn(&[u8], Vec<u8>) -> Vec<u8>,
     pub write: fn(&[u8], &mut [u8]) -> Told,
     pub refuse: fn(u8, &mut [u8]) -> Told,
+    /// first cameras, second cameras, and the pair sought; the stocks are read without it
+    pub look_up: LookUp,
 }
 
 impl Parts {
@@ -64,6 +68,7 @@ impl Parts {
             ends: |_, answer| answer,
             write,
             refuse: |number, _| Told { number, size: 0 },
+            look_up: Box::new(look_up),
         }
     }
 
@@ -115,6 +120,18 @@ pub fn write(answer: &[u8], out: &mut [u8]) -> Told {
     Told { number: 0, size: answer.len() }
 }
 
+/// Fit by fit from the first, up to one that is equal or larger.
+pub fn look_up(firsts: &[u8], seconds: &[u8], sought: Fit) -> Looked {
+    let mut looked = 0;
+    for (first, second) in firsts.iter().zip(seconds) {
+        looked += 1;
+        if (*first, *second) >= sought {
+            return Looked { found: (*first, *second) == sought, looked };
+        }
+    }
+    Looked { found: false, looked }
+}
+
 impl Engine for Parts {
     fn answer_graph(&self, file: &[u8], out: &mut [u8], tally: &mut Tally) -> Told {
         let graph = match self.read(&self.read_graph, file, out) {
@@ -150,5 +167,9 @@ impl Engine for Parts {
             Ok(certificate) if (self.holds)(&graph, &certificate) => Verdict::Yes,
             Ok(_) => Verdict::No,
         }
+    }
+
+    fn look_up(&self, firsts: &[u8], seconds: &[u8], sought: Fit) -> Looked {
+        (self.look_up)(firsts, seconds, sought)
     }
 }

@@ -1,13 +1,20 @@
 //! What was tried, counted.
 //!   Came        what a call came to
 //!   Isolated    where a stock has cameras without a fit, and beside what
-//!   Seen        files, calls, and calls by what they came to, those on files with CR LF also by themselves; stocks by isolated cameras
+//!   Sought      where a pair stands that is looked up, and in which list of fits
+//!   LitPair     where the lit pairs of a stock stand among its fits, those that are fits and those that are none
+//!   Seen        files, calls, and calls by what they came to, those on files with CR LF also by themselves; stocks by isolated cameras and
+//!               by lit pairs; look-ups by what was sought
 //!   never_met   what of all that calls can come to was not met
 //!   too_rare    where isolated cameras stood in too few stocks
+//!   too_few_look_ups, too_few_lit_pairs    what was looked up too seldom; which lit pairs were met too seldom
 
+use crate::engine::Fit;
+use crate::fit_lists::{rises, MOST_FITS};
+use crate::frames::Pair;
 use crate::graph_trial::{CERTIFICATE_QUESTIONS, GRAPH_QUESTIONS};
 use crate::line_ends::CR_LF;
-use crate::stock_trial::{Stock, STOCK_QUESTIONS};
+use crate::stock_trial::{no_camera_twice, Stock, STOCK_QUESTIONS};
 use std::collections::{BTreeMap, BTreeSet};
 use std::fmt;
 
@@ -61,6 +68,182 @@ impl Isolated {
 /// Each place is to be met in more than one stock of so many.
 const RARE: usize = 100;
 
+#[derive(Clone, Copy, Debug, PartialEq, Eq, PartialOrd, Ord)]
+pub enum Sought {
+    NoFits,
+    OneFit,
+    /// 3,900 fits that rise
+    MostFits,
+    // a fit of a list that rises
+    First,
+    Middle,
+    Last,
+    // no fit of one
+    Before,
+    Between,
+    After,
+    /// before, between and after the fits that have its first camera
+    SameFirstBefore,
+    SameFirstBetween,
+    SameFirstAfter,
+    /// among first cameras, but itself none
+    OtherFirst,
+    LargerFirst,
+    Itself,
+    /// behind more than 255 smaller fits
+    Past255,
+    NotRising,
+    Repeats,
+    OtherLengths,
+}
+
+const ALL_SOUGHT: [Sought; 19] = [
+    Sought::NoFits,
+    Sought::OneFit,
+    Sought::MostFits,
+    Sought::First,
+    Sought::Middle,
+    Sought::Last,
+    Sought::Before,
+    Sought::Between,
+    Sought::After,
+    Sought::SameFirstBefore,
+    Sought::SameFirstBetween,
+    Sought::SameFirstAfter,
+    Sought::OtherFirst,
+    Sought::LargerFirst,
+    Sought::Itself,
+    Sought::Past255,
+    Sought::NotRising,
+    Sought::Repeats,
+    Sought::OtherLengths,
+];
+
+/// Whether there are a smaller one, an equal one and a larger one.
+fn sides<T: Ord + Copy>(all: impl Iterator<Item = T>, one: T) -> (bool, bool, bool) {
+    all.fold((false, false, false), |(smaller, equal, larger), other| {
+        (smaller || other < one, equal || other == one, larger || other > one)
+    })
+}
+
+/// What is told of a look-up in fits from two slices, of one length or not.
+fn sought_kinds(fits: &[Fit], one_length: bool, sought: Fit) -> Vec<Sought> {
+    let rising = rises(fits);
+    let (smaller, equal, larger) = sides(fits.iter().copied(), sought);
+    let (first_smaller, same_first, first_larger) = sides(fits.iter().map(|fit| fit.0), sought.0);
+    let of_first = sides(fits.iter().filter(|fit| fit.0 == sought.0).copied(), sought);
+    let repeats = || {
+        let mut ordered = fits.to_vec();
+        ordered.sort_unstable();
+        ordered.windows(2).any(|two| two[0] == two[1])
+    };
+    let is = |kind: &Sought| match kind {
+        Sought::NoFits => fits.is_empty(),
+        Sought::OneFit => fits.len() == 1,
+        Sought::MostFits => rising && fits.len() == MOST_FITS,
+        Sought::First => rising && equal && !smaller && larger,
+        Sought::Middle => rising && equal && smaller && larger,
+        Sought::Last => rising && equal && smaller && !larger,
+        Sought::Before => rising && !equal && !smaller && larger,
+        Sought::Between => rising && !equal && smaller && larger,
+        Sought::After => rising && !equal && smaller && !larger,
+        Sought::SameFirstBefore => rising && of_first == (false, false, true),
+        Sought::SameFirstBetween => rising && of_first == (true, false, true),
+        Sought::SameFirstAfter => rising && of_first == (true, false, false),
+        Sought::OtherFirst => rising && first_smaller && !same_first && first_larger,
+        Sought::LargerFirst => sought.0 > sought.1,
+        Sought::Itself => sought.0 == sought.1,
+        Sought::Past255 => rising && fits.get(255).is_some_and(|fit| *fit < sought),
+        Sought::NotRising => !rising,
+        Sought::Repeats => !rising && repeats(),
+        Sought::OtherLengths => !one_length,
+    };
+    ALL_SOUGHT.into_iter().filter(is).collect()
+}
+
+#[derive(Clone, Copy, Debug, PartialEq, Eq, PartialOrd, Ord)]
+pub enum LitPair {
+    // all of them fits
+    FirstFit,
+    MiddleFit,
+    LastFit,
+    EveryFit,
+    OfMostFits,
+    // one that is no fit: by the fits
+    Before,
+    Between,
+    After,
+    SameFirst,
+    SameSecond,
+    OtherCameras,
+    NoFits,
+    BesideMostFits,
+    // by the lit pairs
+    Alone,
+    FirstLit,
+    MiddleLit,
+    LastLit,
+    Several,
+    CameraTwice,
+}
+
+const ALL_LIT_PAIRS: [LitPair; 19] = [
+    LitPair::FirstFit,
+    LitPair::MiddleFit,
+    LitPair::LastFit,
+    LitPair::EveryFit,
+    LitPair::OfMostFits,
+    LitPair::Before,
+    LitPair::Between,
+    LitPair::After,
+    LitPair::SameFirst,
+    LitPair::SameSecond,
+    LitPair::OtherCameras,
+    LitPair::NoFits,
+    LitPair::BesideMostFits,
+    LitPair::Alone,
+    LitPair::FirstLit,
+    LitPair::MiddleLit,
+    LitPair::LastLit,
+    LitPair::Several,
+    LitPair::CameraTwice,
+];
+
+/// Of a stock that no question before 13 refuses.
+fn lit_kinds(stock: &Stock) -> Vec<LitPair> {
+    let Stock { fits, lit, .. } = stock;
+    let unfit: Vec<usize> = (0..lit.len()).filter(|place| !fits.contains(&lit[*place])).collect();
+    let all_fit = unfit.is_empty() && !lit.is_empty();
+    let any_unfit = |test: &dyn Fn(usize, Pair) -> bool| unfit.iter().any(|place| test(*place, lit[*place]));
+    let stands = |pair: Pair| sides(fits.iter().copied(), pair);
+    let shares = |pair: Pair| fits.iter().any(|fit| [fit.0, fit.1].iter().any(|camera| [pair.0, pair.1].contains(camera)));
+    let is = |kind: &LitPair| match kind {
+        LitPair::FirstFit => all_fit && lit.first() == fits.first(),
+        LitPair::MiddleFit => all_fit && lit.iter().any(|pair| stands(*pair) == (true, true, true)),
+        LitPair::LastFit => all_fit && lit.last() == fits.last(),
+        LitPair::EveryFit => all_fit && lit == fits,
+        LitPair::OfMostFits => all_fit && fits.len() == MOST_FITS,
+        LitPair::Before => any_unfit(&|_, pair| stands(pair) == (false, false, true)),
+        LitPair::Between => any_unfit(&|_, pair| stands(pair) == (true, false, true)),
+        LitPair::After => any_unfit(&|_, pair| stands(pair) == (true, false, false)),
+        LitPair::SameFirst => any_unfit(&|_, pair| fits.iter().any(|fit| fit.0 == pair.0)),
+        LitPair::SameSecond => any_unfit(&|_, pair| fits.iter().any(|fit| fit.1 == pair.1)),
+        LitPair::OtherCameras => any_unfit(&|_, pair| !fits.is_empty() && !shares(pair)),
+        LitPair::NoFits => !unfit.is_empty() && fits.is_empty(),
+        LitPair::BesideMostFits => !unfit.is_empty() && fits.len() == MOST_FITS,
+        LitPair::Alone => !unfit.is_empty() && lit.len() == 1,
+        LitPair::FirstLit => any_unfit(&|place, _| lit.len() > 1 && place == 0),
+        LitPair::MiddleLit => any_unfit(&|place, _| place > 0 && place + 1 < lit.len()),
+        LitPair::LastLit => any_unfit(&|place, _| lit.len() > 1 && place + 1 == lit.len()),
+        LitPair::Several => unfit.len() > 1,
+        LitPair::CameraTwice => !unfit.is_empty() && !no_camera_twice(lit),
+    };
+    ALL_LIT_PAIRS.into_iter().filter(is).collect()
+}
+
+/// What is sought and which pairs are lit is to be met that often.
+const FEW: usize = 5;
+
 type Counts = BTreeMap<Came, usize>;
 
 #[derive(Default)]
@@ -73,6 +256,9 @@ pub struct Seen {
     came_with_cr_lf: Counts,
     stocks: usize,
     isolated: BTreeMap<Isolated, usize>,
+    pub look_ups: usize,
+    sought: BTreeMap<Sought, usize>,
+    lit_pairs: BTreeMap<LitPair, usize>,
 }
 
 impl Seen {
@@ -94,6 +280,25 @@ impl Seen {
         }
     }
 
+    /// A look-up in fits that two slices, of one length or not, give.
+    pub fn look_up(&mut self, fits: &[Fit], one_length: bool, sought: Fit) {
+        self.look_ups += 1;
+        sought_kinds(fits, one_length, sought).into_iter().for_each(|kind| *self.sought.entry(kind).or_default() += 1);
+    }
+
+    /// A stock that no question before 13 refuses.
+    pub fn lit_pairs(&mut self, stock: &Stock) {
+        lit_kinds(stock).into_iter().for_each(|kind| *self.lit_pairs.entry(kind).or_default() += 1);
+    }
+
+    pub fn too_few_look_ups(&self) -> Vec<Sought> {
+        too_few(&ALL_SOUGHT, &self.sought)
+    }
+
+    pub fn too_few_lit_pairs(&self) -> Vec<LitPair> {
+        too_few(&ALL_LIT_PAIRS, &self.lit_pairs)
+    }
+
     pub fn too_rare(&self) -> Vec<Isolated> {
         let met = |place: &Isolated| self.isolated.get(place).copied().unwrap_or(0);
         PLACES.into_iter().filter(|place| met(place) * RARE <= self.stocks).collect()
@@ -106,6 +311,9 @@ impl Seen {
         add_counts(&mut self.came_with_cr_lf, &other.came_with_cr_lf);
         self.stocks += other.stocks;
         add_counts(&mut self.isolated, &other.isolated);
+        self.look_ups += other.look_ups;
+        add_counts(&mut self.sought, &other.sought);
+        add_counts(&mut self.lit_pairs, &other.lit_pairs);
     }
 
     /// In any files, and in files with CR LF.
@@ -116,6 +324,10 @@ impl Seen {
 
 fn add_counts<K: Copy + Ord>(sum: &mut BTreeMap<K, usize>, more: &BTreeMap<K, usize>) {
     more.iter().for_each(|(counted, count)| *sum.entry(*counted).or_default() += count);
+}
+
+fn too_few<K: Copy + Ord>(all: &[K], counts: &BTreeMap<K, usize>) -> Vec<K> {
+    all.iter().copied().filter(|kind| counts.get(kind).copied().unwrap_or(0) < FEW).collect()
 }
 
 fn all() -> BTreeSet<Came> {
@@ -134,6 +346,8 @@ impl fmt::Display for Seen {
     fn fmt(&self, out: &mut fmt::Formatter) -> fmt::Result {
         writeln!(out, "{} files, {} calls: {}", self.files, self.calls, told(&self.came))?;
         writeln!(out, "of them on files with CR LF: {}", told(&self.came_with_cr_lf))?;
-        write!(out, "isolated cameras in {} stocks: {}", self.stocks, told(&self.isolated))
+        writeln!(out, "isolated cameras in {} stocks: {}", self.stocks, told(&self.isolated))?;
+        writeln!(out, "lit pairs: {}", told(&self.lit_pairs))?;
+        write!(out, "{} look-ups: {}", self.look_ups, told(&self.sought))
     }
 }

@@ -1,5 +1,6 @@
 //! The trial against itself; no engine is called.
 //!   lines_agree              lines cut at line feeds and bytes read one by one, on every short text
+//!   look_ups_agree           a look-up by the places of fits that are equal or larger, and by the number of smaller ones, where fits rise
 //!   pairings_agree           all pairings and the blossom algorithm, on small stocks
 //!   marks_agree              document 01's marks, but 03 for the cameras that no largest pairing has, which are those without a fit
 //!   bounds_are_met           on larger stocks: a pairing of the greatest number, and the bound of Tutte and Berge that no pairing exceeds
@@ -9,15 +10,18 @@
 
 use crate::arc_matching;
 use crate::blossom;
+use crate::engine::{Fit, Looked};
 use crate::exhaustive::texts;
+use crate::fit_lists::{every_place, long_list, number_of, parted, rises, short_list, sought_in};
 use crate::frames::{Pair, Text, CR, GRAPH, LF};
 use crate::generate::{
     doubled_table, ear_fits, middling_graph, middling_stock, shuffled_graph, small_graph, small_stock, stock_of,
     stock_with_isolated,
 };
 use crate::graph_trial::{self, canonical, is_barrier, least_of_parts, mate, regular_end, Graph};
-use crate::judge::{shown, Judge, Trial};
+use crate::judge::{shown, shown_fits, Judge, Trial};
 use crate::stock_trial::{self, all_pairings, includes, is_plan, Stock, ISOLATED};
+use crate::truth::look_up_owed;
 
 fn compare(judge: &mut Judge, agree: bool, what: &str, file: &[u8]) -> Trial {
     judge.seen.compared += 1;
@@ -46,6 +50,25 @@ pub fn lines_agree(judge: &mut Judge) -> Trial {
     texts(&[b"0", b"G", b"\r", b"\n"], 8).iter().try_for_each(|text| {
         let agree = Text::of(text).answers(&GRAPH, 3) == is_whole(text);
         compare(judge, agree, "lines cut and bytes read one by one differ", text)
+    })
+}
+
+/// Where fits rise, the smaller ones stand first: they are looked at, and one more where there is one.
+fn by_smaller_fits(fits: &[Fit], sought: Fit) -> Looked {
+    let smaller = fits.iter().filter(|fit| number_of(**fit) < number_of(sought)).count();
+    Looked { found: fits.contains(&sought), looked: fits.len().min(smaller + 1) as u64 }
+}
+
+pub fn look_ups_agree(judge: &mut Judge, files: usize) -> Trial {
+    (0..files).try_for_each(|number| {
+        let random = &mut judge.random;
+        let fits = if number % 50 == 0 { long_list(random) } else { short_list(random) };
+        let few = &fits[..fits.len().min(60)];
+        let pairs = [sought_in(random, &fits), every_place(few)].concat();
+        let agree = rises(&fits) && pairs.iter().all(|sought| look_up_owed(&fits, *sought) == by_smaller_fits(&fits, *sought));
+        let (firsts, seconds) = parted(&fits);
+        let shown = shown_fits(&firsts, &seconds);
+        compare(judge, agree, "places and the number of smaller fits differ", shown.as_bytes())
     })
 }
 

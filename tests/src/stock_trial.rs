@@ -41,7 +41,7 @@ pub fn rises(pairs: &[Pair]) -> bool {
     pairs.iter().all(|(first, second)| first < second) && pairs.windows(2).all(|two| two[0] < two[1])
 }
 
-fn no_camera_twice(pairs: &[Pair]) -> bool {
+pub fn no_camera_twice(pairs: &[Pair]) -> bool {
     let mut cameras: Vec<usize> = pairs.iter().flat_map(|(first, second)| [*first, *second]).collect();
     let all = cameras.len();
     cameras.sort_unstable();

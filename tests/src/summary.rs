@@ -47,9 +47,10 @@ impl Summary<'_> {
         for group in groups.iter().filter(|group| group.name.contains(only)) {
             for seed in group.seeds(seeds) {
                 let (seen, outcome) = run(group, engine, *seed, *files);
-                let note = match seen.compared {
-                    0 => format!(" ({} files, {} calls)", seen.files, seen.calls),
-                    compared => format!(" ({compared} compared)"),
+                let note = match (seen.compared, seen.look_ups) {
+                    (0, 0) => format!(" ({} files, {} calls)", seen.files, seen.calls),
+                    (0, look_ups) => format!(" ({look_ups} look-ups)"),
+                    (compared, _) => format!(" ({compared} compared)"),
                 };
                 self.tell(&format!("{}, seed {seed}", group.name), outcome.map(|_| note));
                 self.seen.add(&seen);
@@ -57,16 +58,21 @@ impl Summary<'_> {
         }
     }
 
-    /// Every kind of answer and every refusal was met, in files with CR LF too, and isolated cameras in every place.
+    /// Every kind of answer and every refusal was met, in files with CR LF too; isolated cameras, lit pairs and look-ups in every place.
     fn try_coverage(&mut self) {
         let kinds = ["every kind of answer and every refusal was met", "the same on files with CR LF"];
         for (name, missing) in kinds.into_iter().zip(self.seen.never_met()) {
-            let outcome = if missing.is_empty() { Ok(String::new()) } else { Err(format!("never met: {missing:?}")) };
-            self.tell(name, outcome);
+            self.tell(name, none_missing(&missing, "never met"));
         }
-        let rare = self.seen.too_rare();
-        let outcome = if rare.is_empty() { Ok(String::new()) } else { Err(format!("too rare: {rare:?}")) };
-        self.tell("isolated cameras were met in every place, and often", outcome);
+        self.tell("isolated cameras were met in every place, and often", none_missing(&self.seen.too_rare(), "too rare"));
+        self.tell(
+            "lit pairs were met in every place, fits and such as are none",
+            none_missing(&self.seen.too_few_lit_pairs(), "too few"),
+        );
+        self.tell(
+            "pairs were looked up in every place and in every kind of list",
+            none_missing(&self.seen.too_few_look_ups(), "too few"),
+        );
     }
 
     fn try_wrong_engines(&mut self) {
@@ -129,6 +135,13 @@ impl Summary<'_> {
         }
         Ok(())
     }
+}
+
+fn none_missing<K: std::fmt::Debug>(missing: &[K], what: &str) -> Result<String, String> {
+    if missing.is_empty() {
+        return Ok(String::new());
+    }
+    Err(format!("{what}: {missing:?}"))
 }
 
 /// A right engine or right programs, and which groups they pass, as far as that was asked.

@@ -3,9 +3,11 @@
 //!   StockTruth, stock_truth    refusal, or the stock and its standing
 //!   Owed                       what a call owes: refusal number, the count that rises, and whether an answer is right
 //!   graph_owed, plan_owed, sheet_owed
+//!   look_up_owed               what the look-up owes, for any fits (document 02, L3)
 
 use crate::arc_matching;
 use crate::blossom;
+use crate::engine::{Fit, Looked};
 use crate::frames::{barrier_file, path_file, plan_file, sheet_file, Text, BARRIER, PATH, PLAN};
 use crate::graph_trial::{self, canonical, is_wanted, mate, Certificate, Graph};
 use crate::stock_trial::{self, is_plan, Standing, Stock};
@@ -113,6 +115,20 @@ fn is_path_answer(graph: &Graph, answer: &[u8]) -> bool {
 fn is_plan_answer(stock: &Stock, standing: &Standing, answer: &[u8]) -> bool {
     let pairs = Text::of(answer).pairs(PLAN.bodies[0]);
     answer == plan_file(&pairs) && is_plan(stock, standing.greatest, &pairs)
+}
+
+/// Of the places of all fits that are equal or larger, the first is the last looked at; where there are none, all fits are.
+pub fn look_up_owed(fits: &[Fit], sought: Fit) -> Looked {
+    let places: Vec<usize> = (0..fits.len()).filter(|place| is_equal_or_larger(fits[*place], sought)).collect();
+    match places.first() {
+        Some(place) => Looked { found: fits[*place] == sought, looked: *place as u64 + 1 },
+        None => Looked { found: false, looked: fits.len() as u64 },
+    }
+}
+
+/// By first camera, then by second.
+pub fn is_equal_or_larger(fit: Fit, sought: Fit) -> bool {
+    fit.0 > sought.0 || (fit.0 == sought.0 && fit.1 >= sought.1)
 }
 
 /// Whether an answer to a graph opens as a path or as a barrier does, for messages.

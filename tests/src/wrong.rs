@@ -1,8 +1,8 @@
 //! Engines with one part wrong. The tests must fail on each of them.
 //!   engines     every wrong engine with what is wrong of it
 //!   Named       what is wrong, and the engine
-//! First those that document 01 shuts out, then its traps, then slips of other kinds (slips.rs), then those in line ends (wrong_line_ends.rs)
-//! and in the marks of cameras without a fit (wrong_isolated.rs).
+//! First those that document 01 shuts out, then its traps, then slips of other kinds (slips.rs), then those in line ends
+//! (wrong_line_ends.rs), in the marks of cameras without a fit (wrong_isolated.rs), and in look-ups and question 13 (wrong_look_ups.rs).
 
 use crate::blossom::{augment, neighbours, pairs, partners, Partners};
 use crate::frames::Pair;
@@ -10,7 +10,7 @@ use crate::graph_trial::{canonical, is_barrier, is_wanted, mate, Certificate, Gr
 use crate::reference::{self, GraphAnswer, Parts};
 use crate::slips;
 use crate::stock_trial::{self, Standing, Stock};
-use crate::{wrong_isolated, wrong_line_ends};
+use crate::{wrong_isolated, wrong_line_ends, wrong_look_ups};
 use std::collections::VecDeque;
 
 pub type Named = (String, Parts);
@@ -23,6 +23,7 @@ pub fn engines() -> Vec<Named> {
     all.extend(slips::of_questions());
     all.extend(wrong_line_ends::engines());
     all.extend(wrong_isolated::engines());
+    all.extend(wrong_look_ups::engines());
     all
 }
 
