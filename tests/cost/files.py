@@ -34,3 +34,10 @@ even = [(2 * random.randrange(128), 2 * random.randrange(128)) for _ in range(40
 graph('even.graph', even)
 graph('even_crlf.graph', even[:3749], '\r\n')  # the largest that 60,000 bytes hold with these line ends
 graph('buds.graph', [(0, 2)] + [(random.randrange(2, 256), random.randrange(2, 256)) for _ in range(4095)])
+# Each of the first 38 cameras has a single fit, which is lit, so that few fits stand before most lit pairs; the others fit nearly all
+# later ones.
+first = [(u, u + 89) for u in range(38)]
+lit = first + [(u, u + 22) for u in range(38, 60)]
+later = [(u, v) for u in range(38, 127) for v in range(u + 1, 127) if (u, v) not in lit]
+stock('lit.stock', 127, lit + later[-3840:], lit)
+stock('unfit.stock', 127, lit[:-1] + later[-3841:], lit)  # the last lit pair is no fit, one more fit stands in its place: question 13
