@@ -4,7 +4,7 @@
 --   looked fs x              how many they are
 --   isFound fs x             the pair is one of them
 --   LookedUp fs x z k        an answer z and a number k that are these
---   EqualOrLarger y x        a fit at which the look-up ends
+--   EqualOrLarger y x        y is x, or larger: a fit at which the look-up of x ends
 --   EndsAt fs x i            the first such fit stands at place i
 --   LooksUpTo fs x k         k is document 02's number, by places: up to that fit, or all fits where each is smaller
 --   LookCounts               PROMISE: the number is that one, and no other
