@@ -8,34 +8,23 @@ use mathlib.Core.Bool.{true}
 use mathlib.Core.List.{List, [], _∷_, _++_}
 use Prim.Native.Nat.{ℕ, zero, suc, _+_, _*_, _/_, _%_, _≤_, _<_}
 use native.Mathlib.Omega.{arith}
-use lib.Dec.{ltb, eqb}
+use lib.Dec.{eqb}
 use lib.ListN.{length, getD, drop}
 use lib.Seq.{drop-cons, drop-drop}
-use borrow.Author.Tests.{eqb-true, eq-eqb, ltb-true, ltb-false, le-leb, lt-leb}
+use borrow.Author.Tests.{eqb-true, eq-eqb}
 use Rattle.formats.specs.Kinds.{markKind, sheetEnd, sheetKind}
 use Rattle.counting.specs.Tests.{same, upFrom, below}
 use Rattle.counting.specs.Lists.{In}
 use Rattle.counting.specs.Pairs.{Pair}
-use Rattle.counting.proofs.Booleans.{and-both, and-two, and-three, by-test, true-false}
+use Rattle.counting.proofs.Booleans.{and-both, and-two, and-three, true-false}
 use Rattle.counting.proofs.Range.{length-up}
-use Rattle.frames.specs.Frames.{digitOf, hexFrom, hexAt, digitByte, hexBytes, frame4, frame6, frameOf4}
+use Rattle.frames.specs.Frames.{hexFrom, hexAt, digitByte, hexBytes, frame4, frame6, frameOf4}
+use Rattle.frames.proofs.Writes.{two-value}
 use Rattle.matching.specs.Stock.{Stock, greatest, markOf, marksFrom, marksOf}
 use Rattle.matching.proofs.Marks.{mark-low}
 use Rattle.files.specs.StockFile.{markLines, sheetText, alike}
 
 -- DIGITS
-digit-value : (d : ℕ) → d < 16 → digitOf (digitByte d) ≡ d
-digit-value d h =
-    by-test (ltb d 10) (λ s. let k = ltb-true d 10 s in rw (s, le-leb (48 + d) 57 (omega arith)) (omega arith))
-    (λ s. let k = ltb-false d 10 s in rw (s, lt-leb (55 + d) 57 (omega arith)) (omega arith))
-
-two-value : (x : ℕ) → x < 256 → hexFrom 0 (hexBytes 2 x) ≡ x
-unfolding hexBytes hexFrom
-two-value x h =
-    let a = digit-value (x / 16 % 16) (omega arith) in
-    let b = digit-value (x % 16) (omega arith) in
-    rw (a, b) (omega arith)
-
 two-digits : (x y : ℕ) → x < 256 → y < 256 → digitByte (x / 16 % 16) ≡ digitByte (y / 16 % 16) → digitByte (x % 16) ≡ digitByte (y % 16) → x ≡ y
 unfolding hexBytes
 two-digits x y h k p q =

@@ -3,6 +3,7 @@
 --   written-rest, written-then          the same of what two calls wrote
 --   written-over                        the same of a text written at the front
 --   hexBytes-length, hexBytes-split     digits: how many; four are the upper two and the lower two
+--   two-value                           what is read of a number that was written in two digits
 --   frame4-length, frame6-length, frameOf4-length    how many bytes a frame takes
 --   hex2-written, hex4-written          two digits as two stores; four as two writes
 --   text-step, text-written             a text written byte by byte
@@ -13,11 +14,14 @@ use Prim.Native.Nat.{ℕ, zero, suc, _+_, _/_, _%_, _≤_, _<_}
 use native.Mathlib.Omega.{arith}
 use native.Mathlib.Numerals.{add-one}
 use native.Mathlib.Nat.{zero-add}
+use lib.Dec.{ltb}
 use lib.ListN.{length, getD, drop, set, length-append, drop-of-length-le}
 use lib.Seq.{drop-cons, sets, sets-eq}
+use borrow.Author.Tests.{ltb-true, ltb-false, le-leb, lt-leb}
 use Rattle.formats.specs.Kinds.{barrierKind}
+use Rattle.counting.proofs.Booleans.{by-test}
 use Rattle.counting.proofs.Stores.{sets-append}
-use Rattle.frames.specs.Frames.{digitByte, hexBytes, frame2, frame4, frame6, frameOf4}
+use Rattle.frames.specs.Frames.{digitOf, hexFrom, digitByte, hexBytes, frame2, frame4, frame6, frameOf4}
 use Rattle.frames.specs.Writes.{Written, barrierLine}
 
 -- ONE RUN BEHIND ANOTHER
@@ -57,6 +61,18 @@ pub frameOf4-length : (k v : ℕ) → length (frameOf4 k v) ≡ 7
 frameOf4-length k v = simp (length-append, hexBytes-length)
 
 -- DIGITS
+digit-value : (d : ℕ) → d < 16 → digitOf (digitByte d) ≡ d
+digit-value d h =
+    by-test (ltb d 10) (λ s. let k = ltb-true d 10 s in rw (s, le-leb (48 + d) 57 (omega arith)) (omega arith))
+    (λ s. let k = ltb-false d 10 s in rw (s, lt-leb (55 + d) 57 (omega arith)) (omega arith))
+
+pub two-value : (x : ℕ) → x < 256 → hexFrom 0 (hexBytes 2 x) ≡ x
+unfolding hexBytes hexFrom
+two-value x h =
+    let a = digit-value (x / 16 % 16) (omega arith) in
+    let b = digit-value (x % 16) (omega arith) in
+    rw (a, b) (omega arith)
+
 pub hex2-written : (l : List ℕ) (at v : ℕ) →
     Written l at 2 (hexBytes 2 v) (set (set l at (digitByte (v / 16 % 16))) (at + 1) (digitByte (v % 16))) (at + 2)
 unfolding hexBytes
