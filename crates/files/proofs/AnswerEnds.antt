@@ -1,19 +1,20 @@
 -- An answer is whole lines of digits, each ended by a line feed alone (document 02, L1).
 --   path-plain, barrier-plain     of a path and of a barrier
 --   plan-plain, sheet-plain       of a plan and of a standing sheet
+--   budget-plain                  of what a budget of searches comes to
 use mathlib.Core.Path.{_≡_, refl, _∙_}
 use mathlib.Core.Bool.{true}
 use mathlib.Core.List.{List, [], _∷_, _++_}
 use Prim.Native.Nat.{ℕ, suc}
 use lib.ListN.{length}
-use Rattle.formats.specs.Kinds.{barrierEnd, barrierKind, classKind, markKind, pairKind, pathEnd, pathKind, planEnd, planKind, sheetEnd, sheetKind, stepKind}
+use Rattle.formats.specs.Kinds.{barrierEnd, barrierKind, budgetEnd, budgetKind, classKind, markKind, pairKind, pathEnd, pathKind, planEnd, planKind, sheetEnd, sheetKind, stepKind}
 use Rattle.counting.specs.Pairs.{Pair}
 use Rattle.counting.specs.Tests.{all, among}
 use Rattle.frames.specs.EitherEnd.{isPlainText}
 use Rattle.frames.specs.Frames.{linesOf, endsWhole, hexBytes, frameOf4}
-use Rattle.frames.proofs.EitherEnd.{frame2-plain, frame4-plain, frame6-plain, frameOf4-plain}
+use Rattle.frames.proofs.EitherEnd.{frame2-plain, frame4-plain, frame6-plain, frame8-plain, frameOf4-plain}
 use Rattle.matching.specs.Stock.{greatest, marksOf}
-use Rattle.files.specs.StockFile.{markLines, sheetText, planLines, planText}
+use Rattle.files.specs.StockFile.{markLines, sheetText, planLines, planText, budgetText}
 use Rattle.files.specs.CertificateFile.{pathLines, pathText, classLines, barrierText}
 
 -- the last line
@@ -61,6 +62,12 @@ unfolding hexBytes
 plan-plain ps =
     let e = frameOf4 planEnd (length ps) in
     frame4-plain planKind (length ps) (planLines ps ++ e) ∙ pairs-plain e ps ∙ end-plain planEnd (length ps)
+
+pub budget-plain : (k m : ℕ) (ps : List Pair) → isPlainText (budgetText k m ps) ≡ true
+unfolding hexBytes
+budget-plain k m ps =
+    let e = frameOf4 budgetEnd (length ps) in
+    frame8-plain budgetKind (length ps) k m (planLines ps ++ e) ∙ pairs-plain e ps ∙ end-plain budgetEnd (length ps)
 
 pub sheet-plain : (n : ℕ) (fs : List Pair) → isPlainText (sheetText n fs) ≡ true
 unfolding hexBytes

@@ -1,8 +1,8 @@
 -- Lines of an answer, seven bytes for each value, written one behind the other.
 --   writing-start, writing-step, writing-end    none is written; one more is; all are
 --   class-lines, mark-lines, path-lines         document 03's lines are such lines
---   plan-text                                   and so are a plan's, by first cameras, the second ones looked up
---   plan-size, sheet-size                       how many bytes a plan and a standing sheet take
+--   plan-text, budget-text                      and so are a plan's and a budget's, by first cameras, the second ones looked up
+--   plan-size, budget-size, sheet-size          how many bytes a plan, a budget's answer and a standing sheet take
 --   first-written                               three parts written one behind the other from the front on, as document 03 has it
 use mathlib.Core.Path.{_≡_, refl, ap, sym, _∙_}
 use mathlib.Core.List.{List, [], _∷_, _++_}
@@ -11,13 +11,13 @@ use native.Mathlib.Omega.{arith}
 use native.Mathlib.Numerals.{add-one}
 use lib.ListN.{length, getD, drop, length-append, drop-of-length-le}
 use lib.Seq.{length-sets, drop-cons}
-use Rattle.formats.specs.Kinds.{classKind, markKind, pairKind, planEnd, planKind, sheetEnd, sheetKind, stepKind}
+use Rattle.formats.specs.Kinds.{budgetEnd, budgetKind, classKind, markKind, pairKind, planEnd, planKind, sheetEnd, sheetKind, stepKind}
 use Rattle.counting.specs.Pairs.{Pair, zipPairs}
 use Rattle.counting.proofs.Zips.{zip-length}
-use Rattle.frames.specs.Frames.{frame4, frame6, frameOf4}
+use Rattle.frames.specs.Frames.{frame4, frame6, frame8, frameOf4}
 use Rattle.frames.specs.Writes.{Written}
 use Rattle.frames.proofs.Writes.{written-rest, written-then, written-over, hexBytes-length, frame6-length}
-use Rattle.files.specs.StockFile.{markLines, planLines, planText}
+use Rattle.files.specs.StockFile.{markLines, planLines, planText, budgetText}
 use Rattle.files.specs.CertificateFile.{pathLines, classLines}
 use Rattle.files.specs.Answers.{eachLine, Writing, WrittenFirst}
 use Rattle.files.proofs.Scans.{drop-next}
@@ -83,6 +83,11 @@ pub plan-text : (us vs : List ℕ) → length vs ≡ length us →
     frame4 planKind (length us) ++ eachLine (λ (i : ℕ) (x : ℕ). frame6 pairKind x (getD vs i 0)) 0 us ++ frameOf4 planEnd (length us) ≡ planText (zipPairs us vs)
 plan-text us vs e = rw (pair-lines 0 us vs (omega arith), zip-length us vs e)
 
+pub budget-text : (searches missing : ℕ) (us vs : List ℕ) → length vs ≡ length us →
+    frame8 budgetKind (length us) searches missing ++ eachLine (λ (i : ℕ) (x : ℕ). frame6 pairKind x (getD vs i 0)) 0 us ++ frameOf4 budgetEnd (length us) ≡
+    budgetText searches missing (zipPairs us vs)
+budget-text k m us vs e = rw (pair-lines 0 us vs (omega arith), zip-length us vs e)
+
 -- SIZES
 plan-lines-length : (ps : List Pair) → length (planLines ps) ≡ 7 * length ps
 unfolding planLines
@@ -91,6 +96,9 @@ plan-lines-length (x ∷ xs) = simp (length-append, hexBytes-length) (omega (ari
 
 pub plan-size : (ps : List Pair) → length (planText ps) ≡ 12 + 7 * length ps
 plan-size ps = simp (length-append, hexBytes-length) (omega (arith, plan-lines-length ps))
+
+pub budget-size : (searches missing : ℕ) (ps : List Pair) → length (budgetText searches missing ps) ≡ 16 + 7 * length ps
+budget-size k m ps = simp (length-append, hexBytes-length) (omega (arith, plan-lines-length ps))
 
 mark-lines-length : (u : ℕ) (ms : List ℕ) → length (markLines u ms) ≡ 7 * length ms
 mark-lines-length u ms = rw (mark-lines u ms) at (each-length (frame6 markKind) u ms (frame6-length markKind))

@@ -9,6 +9,7 @@
 --   SameLines        files of the same lines, whichever ends the lines have
 --   AcceptedFiles    what the questions settle of a file
 --   SheetBytes       what a standing sheet's bytes tell
+--   BudgetBytes      what a budget's bytes tell
 --   GraphFiles       the questions of a graph file
 --   StockFiles       the questions of a stock file
 --   CertificateFiles the questions of a certificate
@@ -24,6 +25,7 @@ pub mod Asked
 pub mod SameLines
 pub mod AcceptedFiles
 pub mod SheetBytes
+pub mod BudgetBytes
 pub mod GraphFiles
 pub mod StockFiles
 pub mod CertificateFiles

@@ -1,4 +1,4 @@
--- Stock files, and plans and standing sheets as they are written (document 01, "Stocks", "Frames" and "Questions put to a call"; the definitions
+-- Stock files, and plans, standing sheets and budgets' answers as they are written (document 01, "Stocks", "Frames" and "Questions put to a call"; the definitions
 -- are document 03's).
 --   headerFits               question 5: at most 127 cameras
 --   stockIn                  the stock that a file's frames say
@@ -9,16 +9,17 @@
 --   markLines, sheetText     the standing sheet, from the cameras and the fits alone
 --   alike                    two stocks with as many cameras, the same greatest number and the same marks: the same sheet
 --   planLines, planText      a plan
+--   budgetText               what a budget of searches comes to (document 02, L4): pairs, searches run, lanes missing; a plan's lines
 use mathlib.Core.Bool.{Bool, _&&_}
 use mathlib.Core.List.{List, [], _∷_, _++_}
 use Prim.Native.Nat.{ℕ, suc}
 use lib.Dec.{leb, eqb}
 use lib.ListN.{length}
-use Rattle.formats.specs.Kinds.{fitKind, litKind, markKind, pairKind, planEnd, planKind, sheetEnd, sheetKind}
+use Rattle.formats.specs.Kinds.{budgetEnd, budgetKind, fitKind, litKind, markKind, pairKind, planEnd, planKind, sheetEnd, sheetKind}
 use Rattle.formats.specs.Limits.{camerasMost, fitsMost}
 use Rattle.counting.specs.Tests.{all, same}
 use Rattle.counting.specs.Pairs.{Pair, pairNamed}
-use Rattle.frames.specs.Frames.{orElse, unless, hexAt, firstLine, bodyLines, shapeFault, stockForm, pairsIn, frame4, frame6, frameOf4}
+use Rattle.frames.specs.Frames.{orElse, unless, hexAt, firstLine, bodyLines, shapeFault, stockForm, pairsIn, frame4, frame6, frame8, frameOf4}
 use Rattle.frames.specs.Questions.{Question, ask}
 use Rattle.frames.specs.Shape.{sizedQuestions}
 use Rattle.matching.specs.Stock.{Stock, hasPair, noneShared, greatest, marksOf, pairsRise}
@@ -80,3 +81,7 @@ planLines (x ∷ xs) = frame6 pairKind (x .first) (x .second) ++ planLines xs
 
 abbrev pub planText : (pairs : List Pair) → List ℕ
 planText ps = frame4 planKind (length ps) ++ planLines ps ++ frameOf4 planEnd (length ps)
+
+-- A BUDGET OF SEARCHES
+abbrev pub budgetText : (searches missing : ℕ) → (pairs : List Pair) → List ℕ
+budgetText k m ps = frame8 budgetKind (length ps) k m ++ planLines ps ++ frameOf4 budgetEnd (length ps)

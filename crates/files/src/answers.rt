@@ -1,12 +1,14 @@
-// Answers written at the front of a lent buffer (document 01, "Frames"): a path, a barrier, a plan, a standing sheet.
+// Answers written at the front of a lent buffer (document 01, "Frames"): a path, a barrier, a plan, a standing sheet, and
+// what a budget of searches comes to (document 02, L4).
 //   put_numbered, put_arcs, put_pairs             body frames, one for each value
-//   put_path, put_barrier, put_plan, put_sheet    whole answers
+//   put_path, put_barrier, put_plan, put_budget, put_sheet    whole answers
 use formats::kinds;
 use frames::write::put_barrier_line;
 use frames::write::put_frame_of4;
 use frames::write::put_frame2;
 use frames::write::put_frame4;
 use frames::write::put_frame6;
+use frames::write::put_frame8;
 ghost use mathlib.Core.Path.{_≡_};
 ghost use Prim.Native.Nat.{ℕ, _+_, _*_, _≤_};
 ghost use mathlib.Core.List.{_++_};
@@ -16,7 +18,7 @@ ghost use Rattle.counting.specs.Pairs.{zipPairs};
 ghost use Rattle.frames.specs.Frames.{frame4, frame6, frameOf4};
 ghost use Rattle.frames.specs.Writes.{Written};
 ghost use Rattle.files.specs.Answers.{eachLine, WrittenFirst};
-ghost use Rattle.files.specs.StockFile.{markLines, planText};
+ghost use Rattle.files.specs.StockFile.{markLines, planText, budgetText};
 ghost use Rattle.files.specs.CertificateFile.{pathText, barrierText};
 
 // A frame of one kind for each value: its number, from 0, and the value.
@@ -97,6 +99,22 @@ pub fn put_plan(out: &mut [u8], firsts: &[u8], seconds: &[u8]) -> usize
     let first = put_frame4(out, 0, kinds::PLAN, firsts.len());
     let last = put_pairs(out, first, firsts, seconds);
     put_frame_of4(out, last, kinds::PLAN_END, firsts.len())
+}
+
+pub fn put_budget(
+    out: &mut [u8],
+    searches: usize,
+    missing: usize,
+    firsts: &[u8],
+    seconds: &[u8],
+) -> usize
+    requires { ⌜ length (now seconds) ≡ length (now firsts) ⌝ }
+    requires { ⌜ 16 + 7 * length (now firsts) ≤ length (now out) ⌝ }
+    ensures { λ r. ⌜ WrittenFirst (budgetText searches missing (zipPairs (now (firsts .entry)) (now (seconds .entry)))) (now (out .entry)) (now (out .exit)) r ⌝ }
+{
+    let first = put_frame8(out, 0, kinds::BUDGET, firsts.len(), searches, missing);
+    let last = put_pairs(out, first, firsts, seconds);
+    put_frame_of4(out, last, kinds::BUDGET_END, firsts.len())
 }
 
 pub fn put_sheet(out: &mut [u8], pairs: usize, marks: &[u8]) -> usize

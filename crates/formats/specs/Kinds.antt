@@ -5,6 +5,7 @@
 --   barrierKind, classKind, barrierEnd        a barrier: node and class
 --   sheetKind, markKind, sheetEnd             a standing sheet: camera and mark
 --   planKind, pairKind, planEnd               a plan
+--   budgetKind, budgetEnd                     what a budget of searches comes to (document 02, L4): its lines are a plan's
 --   verdictKind, refusalKind                  a check's yes or no, and a refusal
 use Prim.Native.Nat.{ℕ}
 
@@ -64,6 +65,12 @@ pairKind = 0x52
 
 abbrev pub planEnd : ℕ
 planEnd = 0x5F
+
+abbrev pub budgetKind : ℕ
+budgetKind = 0x61
+
+abbrev pub budgetEnd : ℕ
+budgetEnd = 0x6F
 
 abbrev pub verdictKind : ℕ
 verdictKind = 0x7A

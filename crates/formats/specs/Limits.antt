@@ -8,6 +8,7 @@
 --   fitsMost         8: fits of a stock
 --   stepsMost        8: lines of a path
 --   classMost        9: the highest class
+--   searchesMost     15: searches of a budget, enough for a plan of every stock
 use Prim.Native.Nat.{ℕ}
 
 abbrev pub room : ℕ
@@ -36,3 +37,6 @@ stepsMost = 255
 
 abbrev pub classMost : ℕ
 classMost = 0x82
+
+abbrev pub searchesMost : ℕ
+searchesMost = 64

@@ -5,6 +5,7 @@
 //   BARRIER, CLASS, BARRIER_END        a barrier: node and class
 //   SHEET, MARK, SHEET_END             a standing sheet: camera and mark
 //   PLAN, PAIR, PLAN_END               a plan
+//   BUDGET, BUDGET_END                 what a budget of searches comes to (document 02, L4): its lines are a plan's
 //   VERDICT, REFUSAL                   a check's yes or no, and a refusal
 pub const GRAPH: usize = 0x01;
 
@@ -43,6 +44,10 @@ pub const PLAN: usize = 0x51;
 pub const PAIR: usize = 0x52;
 
 pub const PLAN_END: usize = 0x5F;
+
+pub const BUDGET: usize = 0x61;
+
+pub const BUDGET_END: usize = 0x6F;
 
 pub const VERDICT: usize = 0x7A;
 

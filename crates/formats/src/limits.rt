@@ -8,6 +8,7 @@
 //   FITS_MOST          8: fits of a stock
 //   STEPS_MOST         8: lines of a path
 //   CLASS_MOST         9: the highest class
+//   SEARCHES_MOST      15: searches of a budget, enough for a plan of every stock
 pub const ROOM: usize = 2048;
 
 pub const FILE_MOST: usize = 60000;
@@ -25,3 +26,5 @@ pub const FITS_MOST: usize = 3900;
 pub const STEPS_MOST: usize = 255;
 
 pub const CLASS_MOST: u8 = 0x82;
+
+pub const SEARCHES_MOST: usize = 64;

@@ -3,7 +3,7 @@
 --   lines-read         lines written with either end are read as they were written
 --   whole-is           question 3 is answered yes exactly for files of frames, each ended either way
 --   writes-digits      what is written of a number is digits alone
---   frame2-plain, frame4-plain, frame6-plain, frameOf4-plain    a frame at the front of a text: a whole line that ends with a line feed alone
+--   frame2-plain, frame4-plain, frame6-plain, frame8-plain, frameOf4-plain    a frame at the front of a text: a whole line that ends with a line feed alone
 --   feeds-as-before    without carriage returns the lines are document 03's
 use mathlib.Core.Path.{_≡_, refl, sym, ap, _∙_}
 use mathlib.Core.Bool.{Bool, true, false, _&&_, not, and-false}
@@ -16,7 +16,7 @@ use borrow.Author.Tests.{eqb-true, eqb-false, ne-eqb, ltb-true, ltb-false, le-le
 use Rattle.counting.specs.Tests.{pick, all, among}
 use Rattle.counting.proofs.Booleans.{and-two, and-three, or-right, or-false-left, or-false-right, by-test, true-false}
 use Rattle.counting.proofs.Membership.{all-each, each-all, all-append}
-use Rattle.frames.specs.Frames.{isIn, isDigit, isCrLf, withByte, linesOf, endsWhole, isFrame, isWholeFile, digitByte, hexBytes, frame2, frame4, frame6, frameOf4}
+use Rattle.frames.specs.Frames.{isIn, isDigit, isCrLf, withByte, linesOf, endsWhole, isFrame, isWholeFile, digitByte, hexBytes, frame2, frame4, frame6, frame8, frameOf4}
 use Rattle.frames.specs.EitherEnd.{returnsFrom, LinesKept, Ended, ended, endBytes, textOf, bytesOf, isInner, LinesRead, WholeIs, feedLines, FeedsAsBefore, isPlainText, WritesDigits}
 use Rattle.frames.proofs.LineEnds.{digit-other, by-front, ends-more, feed-ends}
 
@@ -219,11 +219,18 @@ module _ (k : ℕ) where
   unfolding hexBytes
   frame4-plain a r = line-plain (hexBytes 2 k ++ hexBytes 2 a) r (digits-two 2 2 k a)
 
+  digits-three : (a b : ℕ) → all isDigit (hexBytes 2 k ++ hexBytes 2 a ++ hexBytes 2 b) ≡ true
+  digits-three a b = all-append isDigit (hexBytes 2 k ++ hexBytes 2 a) (hexBytes 2 b) (digits-two 2 2 k a) (writes-digits 2 b)
+
   pub frame6-plain : (a b : ℕ) (r : List ℕ) → isPlainText (frame6 k a b ++ r) ≡ isPlainText r
   unfolding hexBytes
-  frame6-plain a b r =
-      line-plain (hexBytes 2 k ++ hexBytes 2 a ++ hexBytes 2 b) r
-      (all-append isDigit (hexBytes 2 k ++ hexBytes 2 a) (hexBytes 2 b) (digits-two 2 2 k a) (writes-digits 2 b))
+  frame6-plain a b r = line-plain (hexBytes 2 k ++ hexBytes 2 a ++ hexBytes 2 b) r (digits-three a b)
+
+  pub frame8-plain : (a b c : ℕ) (r : List ℕ) → isPlainText (frame8 k a b c ++ r) ≡ isPlainText r
+  unfolding hexBytes
+  frame8-plain a b c r =
+      line-plain (hexBytes 2 k ++ hexBytes 2 a ++ hexBytes 2 b ++ hexBytes 2 c) r
+      (all-append isDigit (hexBytes 2 k ++ hexBytes 2 a ++ hexBytes 2 b) (hexBytes 2 c) (digits-three a b) (writes-digits 2 c))
 
   pub frameOf4-plain : (v : ℕ) (r : List ℕ) → isPlainText (frameOf4 k v ++ r) ≡ isPlainText r
   unfolding hexBytes

@@ -22,7 +22,7 @@
 --   pairIn l, pairsIn k ls                     a body frame as two numbers; the frames of one kind
 --   numbersIn ls                               body frames as a number each
 --   digitByte d, hexBytes n x                  a digit as it is written; x in n digits
---   frame2 k, frame4 k a, frame6 k a b         frames as they are written: the kind alone, with one number, with two
+--   frame2 k, frame4 k a, frame6 k a b, frame8 k a b c     frames as they are written: the kind alone, with one number, with two, with three
 --   frameOf4 k v                               and with one number in four digits
 use mathlib.Core.Bool.{Bool, true, false, _&&_, _||_}
 use mathlib.Core.List.{List, [], _∷_, _++_}
@@ -176,6 +176,9 @@ frame4 k a = hexBytes 2 k ++ hexBytes 2 a ++ (10 ∷ [])
 
 abbrev pub frame6 : (kind a b : ℕ) → List ℕ
 frame6 k a b = hexBytes 2 k ++ hexBytes 2 a ++ hexBytes 2 b ++ (10 ∷ [])
+
+abbrev pub frame8 : (kind a b c : ℕ) → List ℕ
+frame8 k a b c = hexBytes 2 k ++ hexBytes 2 a ++ hexBytes 2 b ++ hexBytes 2 c ++ (10 ∷ [])
 
 abbrev pub frameOf4 : (kind value : ℕ) → List ℕ
 frameOf4 k v = hexBytes 2 k ++ hexBytes 4 v ++ (10 ∷ [])

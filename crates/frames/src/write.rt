@@ -1,14 +1,14 @@
 // Frames written into a buffer that the caller lends (document 01, "Frames"). Each function writes at `at` and answers the place right behind what it
 // wrote, so that a run of calls writes a run of frames.
 //   digit_byte, put_hex2, put_hex4, put_line_feed             the parts of a frame
-//   put_frame2, put_frame4, put_frame6, put_frame_of4         frames
+//   put_frame2, put_frame4, put_frame6, put_frame8, put_frame_of4     frames
 //   put_text, begins_with, put_barrier_line, begins_barrier   the first line of a barrier, written and compared
 ghost use mathlib.Core.Path.{_≡_};
 ghost use mathlib.Core.List.{[], _∷_};
 ghost use Prim.Native.Nat.{_+_, _<_, _≤_};
 ghost use lib.ListN.{length};
 ghost use Rattle.formats.specs.Kinds.{barrierKind};
-ghost use Rattle.frames.specs.Frames.{digitByte, hexBytes, frame2, frame4, frame6, frameOf4};
+ghost use Rattle.frames.specs.Frames.{digitByte, hexBytes, frame2, frame4, frame6, frame8, frameOf4};
 ghost use Rattle.frames.specs.Writes.{Written, beginsWith, beginsBarrier};
 
 // The first line of a barrier, written at the front and compared by the reader of certificates.
@@ -79,6 +79,17 @@ pub fn put_frame6(out: &mut [u8], at: usize, kind: usize, a: usize, b: usize) ->
     let first = put_hex2(out, at, kind);
     let second = put_hex2(out, first, a);
     let end = put_hex2(out, second, b);
+    put_line_feed(out, end)
+}
+
+pub fn put_frame8(out: &mut [u8], at: usize, kind: usize, a: usize, b: usize, c: usize) -> usize
+    requires { ⌜ at + 9 ≤ length (now out) ⌝ }
+    ensures { λ r. ⌜ Written (now (out .entry)) at 9 (frame8 kind a b c) (now (out .exit)) r ⌝ }
+{
+    let first = put_hex2(out, at, kind);
+    let second = put_hex2(out, first, a);
+    let third = put_hex2(out, second, b);
+    let end = put_hex2(out, third, c);
     put_line_feed(out, end)
 }
 

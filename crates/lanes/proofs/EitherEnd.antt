@@ -14,7 +14,7 @@ use Rattle.frames.proofs.EitherEnd.{frame4-plain}
 use Rattle.files.specs.GraphFile.{graphIn}
 use Rattle.files.specs.SameLines.{SameLines}
 use Rattle.files.proofs.SameLines.{returns-same, too-long}
-use Rattle.files.proofs.AnswerEnds.{path-plain, barrier-plain, plan-plain, sheet-plain}
+use Rattle.files.proofs.AnswerEnds.{path-plain, barrier-plain, plan-plain, budget-plain, sheet-plain}
 use Rattle.lanes.specs.Entry.{checkPost, verdictLine}
 use Rattle.lanes.specs.declared.Verdict.{Verdict}
 use Rattle.lanes.specs.declared.Verdict.the-variants.{Refused, Yes, No}
@@ -29,12 +29,14 @@ answered-alike f g s = (
   λ o. rw (s .0, s .1, s .2),
   λ o. rw (s .0, s .1, s .2),
   λ o t. rw (s .0, s .1, s .2),
+  λ b o v r. rw (s .0, s .1, s .2) (λ x. x, λ x. x),
+  λ b o t. rw (s .0, s .1, s .2),
 )
 
 pub returns-answered : ReturnsAnswered
 returns-answered z f = (
   λ h. answered-alike (withReturns z f) f (returns-same z f h),
-  λ h o. let t = too-long (withReturns z f) h in (rw (t .0), rw (t .1)),
+  λ h o. let t = too-long (withReturns z f) h in (rw (t .0), rw (t .1), λ b. rw (t .1)),
 )
 
 checked-alike : (f g c d : List ℕ) → SameLines f g → SameLines c d → checkPost f c ≡ checkPost g d
@@ -58,4 +60,4 @@ verdict-plain Yes = line-plain verdictKind 1
 verdict-plain No = line-plain verdictKind 0
 
 pub writes-plain : WritesPlain
-writes-plain = (path-plain, barrier-plain, plan-plain, sheet-plain, line-plain refusalKind, verdict-plain)
+writes-plain = (path-plain, barrier-plain, plan-plain, budget-plain, sheet-plain, line-plain refusalKind, verdict-plain)

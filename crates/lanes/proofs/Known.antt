@@ -3,6 +3,7 @@
 --   known-texts       answers byte for byte
 --   known-ends        files with either line end
 --   known-isolated    cameras without a fit
+--   known-budgets     budgets of searches
 use mathlib.Core.Path.{refl}
 use Rattle.counting.specs.Tests.{all, any, among, noneTwice, upFrom, keep}
 use Rattle.counting.specs.Pairs.{secondsOf}
@@ -10,9 +11,10 @@ use Rattle.frames.specs.Frames.{linesOf, endsWhole, hexFrom, hexBytes, laterFit
 use Rattle.frames.specs.EitherEnd.{returnsFrom}
 use Rattle.skew.specs.Graph.{matesFit, nodesAlong, isJoined, noMates, endOf, reachesFrom, largestOf, entriesInto, partOnce, partBy, leastOf, classesFrom}
 use Rattle.matching.specs.Stock.{hasPair, noneShared, withFirst, allPairings, mostOf, marksFrom, pairsRise, samePairs}
+use Rattle.matching.specs.Budget.{searchOneByOne}
 use Rattle.files.specs.StockFile.{markLines, planLines}
 use Rattle.files.specs.CertificateFile.{classLines, pathLines, namesInOrder}
-use Rattle.lanes.specs.Known.{KnownFiles, KnownTexts, KnownEnds, KnownIsolated}
+use Rattle.lanes.specs.Known.{KnownFiles, KnownTexts, KnownEnds, KnownIsolated, KnownBudgets}
 
 pub known-files : KnownFiles
 unfolding all any among noneTwice upFrom keep nodesAlong isJoined noMates endOf reachesFrom largestOf entriesInto partOnce partBy leastOf classesFrom hasPair noneShared pairsRise linesOf endsWhole hexFrom hexBytes laterFit bodiesFit pairsIn numbersIn matesFit classLines pathLines namesInOrder secondsOf
@@ -29,3 +31,28 @@ known-ends = (refl, refl, refl, refl, refl, refl, refl, refl, refl, refl, refl, 
 pub known-isolated : KnownIsolated
 unfolding all any upFrom hasPair noneShared withFirst allPairings mostOf marksFrom pairsRise samePairs linesOf endsWhole hexFrom hexBytes laterFit bodiesFit pairsIn markLines
 known-isolated = (refl, refl, refl, refl, refl, refl)
+
+pub known-budgets : KnownBudgets
+unfolding all any upFrom hasPair noneShared withFirst allPairings mostOf pairsRise samePairs searchOneByOne linesOf endsWhole hexFrom hexBytes laterFit bodiesFit pairsIn planLines
+known-budgets = (
+  (refl, refl),
+  (refl, refl),
+  (refl, refl),
+  (refl, refl),
+  refl,
+  refl,
+  refl,
+  (refl, refl),
+  (refl, refl),
+  (refl, refl),
+  (refl, refl),
+  (refl, refl),
+  (refl, refl),
+  (refl, refl),
+  refl,
+  refl,
+  refl,
+  refl,
+  refl,
+  refl,
+)

@@ -3,19 +3,29 @@
 --   Known            known graphs and stocks as files, by computing
 --   Promises         the promises, kept for every file
 --   BytePromises     five of them as document 03 states them
+--   BudgetPromises   the budgeted call's promises
 --   EitherEnd        the promises where lines end either way
 --   Checks           the check's answer
 --   GraphCalls       what the graph call answers
 --   StockCalls       what the stock calls answer
+--   BudgetCalls      what the budgeted call answers
 --   Outcomes         the tally that a call owes, by what the call came to
---   LentTally        a call with its tally lent, over the call by value
+--   Forms            the answers of the calls by value, as a proof by hand takes them
+--   Numbers          parameters that are numbers, in a proof by hand
+--   LentBody         the body of a call with its tally lent
+--   LentTally        such a call, over the call by value
 pub mod Marked
 pub mod Known
 pub mod Promises
 pub mod BytePromises
+pub mod BudgetPromises
 pub mod EitherEnd
 pub mod Checks
 pub mod GraphCalls
 pub mod StockCalls
+pub mod BudgetCalls
 pub mod Outcomes
+pub mod Forms
+pub mod Numbers
+pub mod LentBody
 pub mod LentTally

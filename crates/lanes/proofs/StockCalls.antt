@@ -1,8 +1,8 @@
 -- What the stock calls answer: the questions of a file settle what a search takes, and what is written is what they owe.
---   listed-few                        a plan has at most 63 pairs
+--   pairs-few, plan-few               a pairing that was handed out has at most 63 pairs; so has a plan
 --   plan-small, sheet-small           what is written is short
 --   plan-written, sheet-written       and is what is owed of the stock
---   cameras-few, stock-table          an accepted file as it was read: what a search takes
+--   stock-is, cameras-few, stock-table     a file as it was read is its stock; an accepted one is what a search takes
 --   room-fault, file-fault            question 1 is answered no; it is answered yes, and the others are the file's
 --   plan-refused, sheet-refused       what a refused call owes
 --   plan-answered, sheet-answered     what an answered call owes
@@ -17,14 +17,14 @@ use lib.ListN.{length, take}
 use lib.Seq.{length-take-le}
 use Rattle.formats.specs.Kinds.{sheetEnd, sheetKind}
 use Rattle.formats.specs.Limits.{camerasMost, room}
-use Rattle.counting.specs.Pairs.{Pair, pairsOf}
+use Rattle.counting.specs.Pairs.{Pair, pairsOf, zipPairs}
 use Rattle.counting.proofs.Booleans.{true-false}
 use Rattle.frames.specs.Frames.{frame4, frameOf4}
-use Rattle.matching.specs.Stock.{Stock, isPlan}
+use Rattle.matching.specs.Stock.{Stock, isPairing, isPlan}
 use Rattle.matching.specs.Promise.{WellFormedStock}
-use Rattle.pairing.specs.Table.{stockOf}
+use Rattle.pairing.specs.Table.{stockOf, PairsWritten}
 use Rattle.pairing.specs.Plan.{StockTable, PlanListed, Sheet}
-use Rattle.pairing.proofs.Plans.{plan-few, plan-read}
+use Rattle.pairing.proofs.Listed.{plan-pairing, listed-few, listed-read}
 use Rattle.files.specs.StockFile.{markLines, stockIn, stockFault, planText}
 use Rattle.files.specs.Answers.{WrittenFirst}
 use Rattle.lanes.specs.Entry.{sheetFault}
@@ -38,16 +38,23 @@ use Rattle.files.proofs.AcceptedFiles.{accepted-stock, stock-few, fits-few}
 use Rattle.files.proofs.AnswerLines.{plan-size, sheet-size}
 
 -- WRITTEN
+pub pairs-few : {n : ℕ} {us vs ls rs xs ys xs′ ys′ : List ℕ} {r : ℕ} {ps : List Pair} → StockTable n us vs ls rs → isPairing (zipPairs us vs) ps ≡ true →
+    PairsWritten xs ys 0 xs′ ys′ r ps → r ≤ 63
+pairs-few T P w = omega (arith, T .cameras-few, listed-few (T .well-formed) P w)
+
 module _ {n : ℕ} {us vs ls rs xs ys xs′ ys′ : List ℕ} {r : ℕ} (T : StockTable n us vs ls rs) (P : PlanListed (stockOf n us vs ls rs) xs ys xs′ ys′ r) where
-  pub listed-few : r ≤ 63
-  listed-few = omega (arith, T .cameras-few, plan-few _ (T .well-formed) P)
+  pairing : isPairing (zipPairs us vs) (P .pairs) ≡ true
+  pairing = plan-pairing (stockOf n us vs ls rs) (P .pairs) (P .plan)
+
+  pub plan-few : r ≤ 63
+  plan-few = pairs-few T pairing (P .written)
 
   module _ (h : n ≤ length xs) (k : n ≤ length ys) {before after : List ℕ} {size : ℕ} (w : WrittenFirst (planText (pairsOf r xs′ ys′)) before after size) where
     plan-told : WrittenFirst (planText (P .pairs)) before after size
-    plan-told = rw (plan-read _ (T .well-formed) P h k) at w
+    plan-told = rw (listed-read (T .well-formed) pairing (P .written) h k) at w
 
     pub plan-small : size ≤ room
-    plan-small = omega (arith, plan-told .told, plan-size (P .pairs), P .count, listed-few)
+    plan-small = omega (arith, plan-told .told, plan-size (P .pairs), P .written .count, plan-few)
 
     pub plan-written : {a : Answer} → a ≡ answeredBy size outcome.Stock → PlanWritten (stockOf n us vs ls rs) before after a
     plan-written is = record { pairs = P .pairs; plan = P .plan; answers = (rw (is, plan-told .told), plan-told .bytes); outcome = rw is }
@@ -64,7 +71,7 @@ module _ (k : ℕ) (ms : List ℕ) {before after : List ℕ} {size : ℕ} (w : W
 -- A FILE AS IT WAS READ
 module _ {f us vs xs ys : List ℕ} {n k l : ℕ} (h : StockHeld f us vs xs ys n k l) where
   module _ (m : ℕ) (same : m ≡ n) where
-    stock-is : stockOf m (take k us) (take k vs) (take l xs) (take l ys) ≡ stockIn f
+    pub stock-is : stockOf m (take k us) (take k vs) (take l xs) (take l ys) ≡ stockIn f
     stock-is = rw (same, h .camerasAre, h .fitsAre, h .litAre)
 
   module _ (none : stockFault f ≡ 0) where

@@ -1,5 +1,5 @@
 -- What each call answers and leaves: its result, the buffer and the tally (document 01, "Questions put to a call"; the definitions are document
--- 03's, with the verdict's lines).
+-- 03's, with the verdict's lines and the budgeted call of document 02, L4).
 --   roomFault, answerFault, sheetFault, checkFault    the first question answered no, by call
 --   told                                              a call's result: its refusal, or 0 and the answer's size
 --   largest, raised, counted, tallied                 a count's largest; one more below it; of the counts named; of the one that an outcome names
@@ -9,6 +9,10 @@
 --   PlanOwes                                          a stock's plan: which largest one is left free
 --   sheetOfFile, sheetPost, sheetLeaves               a stock's standing sheet
 --   stockOutcome, stockTally                          what either comes to, and the tally then
+--   mostFault, budgetFault                            question 15; 1, then 15, then the stock's
+--   searched                                          a call's result with the searches that were run, 0 in a refusal
+--   budgetTextOf, BudgetOwes                          what a budget of searches comes to, as it is written; which pairing is left free
+--   budgetOutcome, budgetTally                        what that call comes to, and the tally then
 --   refusalLine                                       the line that says a refusal
 use mathlib.Core.Path.{_≡_}
 use mathlib.Core.Bool.{Bool, true, false, _&&_, not}
@@ -17,20 +21,22 @@ use Prim.Native.Nat.{ℕ, suc, _+_}
 use lib.Dec.{ltb, leb, eqb}
 use lib.ListN.{length}
 use Rattle.formats.specs.Kinds.{refusalKind, verdictKind}
-use Rattle.formats.specs.Limits.{room}
+use Rattle.formats.specs.Limits.{room, searchesMost}
 use Rattle.counting.specs.Tests.{pick}
 use Rattle.counting.specs.Pairs.{Pair}
 use Rattle.frames.specs.Frames.{orElse, unless, frame4}
 use Rattle.skew.specs.Graph.{hasPath, isWanted, canonical}
-use Rattle.matching.specs.Stock.{isPlan}
+use Rattle.matching.specs.Stock.{Stock, isPlan}
+use Rattle.matching.specs.Budget.{searchesRun, missing, isBudgeted}
 use Rattle.files.specs.GraphFile.{graphIn, graphFault}
-use Rattle.files.specs.StockFile.{stockIn, stockFault, planText, sheetText}
+use Rattle.files.specs.StockFile.{stockIn, stockFault, planText, sheetText, budgetText}
 use Rattle.files.specs.Answers.{over}
 use Rattle.files.specs.CertificateFile.{certFault, certHolds, pathText, barrierText}
 use Rattle.lanes.specs.declared.Tally.{Tally}
 use Rattle.lanes.specs.declared.Outcome.{Outcome}
-use Rattle.lanes.specs.declared.Outcome.the-variants.{Path, Barrier, Stock, Refusal}
+use Rattle.lanes.specs.declared.Outcome.the-variants as outcome
 use Rattle.lanes.specs.declared.Told.{Told}
+use Rattle.lanes.specs.declared.Searched.{Searched}
 use Rattle.lanes.specs.declared.Verdict.{Verdict}
 use Rattle.lanes.specs.declared.Verdict.the-variants.{Refused, Yes, No}
 
@@ -62,10 +68,10 @@ counted t a b c d =
 
 -- one more of the count that an outcome names
 abbrev pub tallied : Tally → Outcome → Tally
-tallied t Path = counted t true false false false
-tallied t Barrier = counted t false true false false
-tallied t Stock = counted t false false true false
-tallied t Refusal = counted t false false false true
+tallied t outcome.Path = counted t true false false false
+tallied t outcome.Barrier = counted t false true false false
+tallied t outcome.Stock = counted t false false true false
+tallied t outcome.Refusal = counted t false false false true
 
 -- A GRAPH: some regular path, or the canonical barrier; which path is left free
 abbrev pub answerFault : (file buffer : List ℕ) → ℕ
@@ -82,7 +88,7 @@ GraphOwes f o r v =
     (hasPath (graphIn f) ≡ true → (is : List ℕ) × ((isWanted (graphIn f) is ≡ true) × Answers (pathText is) o r v)))
 
 abbrev pub graphOutcome : (file buffer : List ℕ) → Outcome
-graphOutcome f o = pick (eqb (answerFault f o) 0) (pick (hasPath (graphIn f)) Path Barrier) Refusal
+graphOutcome f o = pick (eqb (answerFault f o) 0) (pick (hasPath (graphIn f)) outcome.Path outcome.Barrier) outcome.Refusal
 
 abbrev pub graphTally : (file buffer : List ℕ) → Tally → Tally
 graphTally f o t =
@@ -123,7 +129,34 @@ abbrev pub sheetLeaves : (file buffer : List ℕ) → List ℕ
 sheetLeaves f o = pick (eqb (sheetFault f o) 0) (over (sheetOfFile f) o) o
 
 abbrev pub stockOutcome : (file buffer : List ℕ) → Outcome
-stockOutcome f o = pick (eqb (sheetFault f o) 0) Stock Refusal
+stockOutcome f o = pick (eqb (sheetFault f o) 0) outcome.Stock outcome.Refusal
 
 abbrev pub stockTally : (file buffer : List ℕ) → Tally → Tally
 stockTally f o t = counted t false false (eqb (sheetFault f o) 0) (not (eqb (sheetFault f o) 0))
+
+-- A BUDGET OF SEARCHES: which pairing is left free
+abbrev pub mostFault : (most : ℕ) → ℕ
+mostFault b = unless (leb b searchesMost) 15
+
+abbrev pub budgetFault : (most : ℕ) → (file buffer : List ℕ) → ℕ
+budgetFault b f o = orElse (roomFault o) (orElse (mostFault b) (stockFault f))
+
+abbrev pub searched : (number size searches : ℕ) → Searched
+searched n k j = record { told = told n k; searches = pick (eqb n 0) j 0 }
+
+abbrev pub budgetTextOf : Stock → (most : ℕ) → (pairs : List Pair) → List ℕ
+budgetTextOf s b ps = budgetText (searchesRun s b) (missing s b (length ps)) ps
+
+abbrev pub BudgetOwes : (most : ℕ) → (file buffer : List ℕ) → (answer : Searched) → (after : List ℕ) → Type 0
+BudgetOwes b f o r v =
+    (eqb (budgetFault b f o) 0 ≡ false → (r ≡ searched (budgetFault b f o) 0 0) × (v ≡ o)) ×
+    (budgetFault b f o ≡ 0 →
+    (ps : List Pair) ×
+    ((isBudgeted (stockIn f) b ps ≡ true) × (r ≡ searched 0 (length (budgetTextOf (stockIn f) b ps)) (searchesRun (stockIn f) b)) ×
+    (v ≡ over (budgetTextOf (stockIn f) b ps) o)))
+
+abbrev pub budgetOutcome : (most : ℕ) → (file buffer : List ℕ) → Outcome
+budgetOutcome b f o = pick (eqb (budgetFault b f o) 0) outcome.Stock outcome.Refusal
+
+abbrev pub budgetTally : (most : ℕ) → (file buffer : List ℕ) → Tally → Tally
+budgetTally b f o t = counted t false false (eqb (budgetFault b f o) 0) (not (eqb (budgetFault b f o) 0))

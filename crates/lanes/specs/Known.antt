@@ -7,21 +7,26 @@
 --   KnownEnds                         files with such ends, answered alike; files whose lines are ended otherwise, refused with 3
 --   fourMarks, fourMarksFile          a stock of eight cameras with every mark, two of them without a fit
 --   KnownIsolated                     the sheets of three stocks with cameras without a fit
+--   s5, s5Plan, oneFit, noCameras     S5, its plan; so many cameras, of which two fit each other; none
+--   Budgets                           a pairing is one that so many searches may come to, with these numbers in the header
+--   KnownBudgets                      S5's answers to budgets of 0, 1, 2 and 64 searches, and edges
 use mathlib.Core.Path.{_≡_}
-use mathlib.Core.Bool.{true}
+use mathlib.Core.Bool.{true, false}
 use mathlib.Core.List.{List, [], _∷_, _++_}
 use Prim.Native.Nat.{ℕ, suc}
 use lib.Dec.{eqb}
 use lib.ListN.{length, drop}
-use Rattle.formats.specs.Kinds.{arcKind, fitKind, graphEnd, graphKind, litKind, markKind, sheetEnd, sheetKind, stockEnd, stockKind}
-use Rattle.frames.specs.Frames.{frame4, frame6, frameOf4}
+use Rattle.formats.specs.Kinds.{arcKind, budgetEnd, budgetKind, fitKind, graphEnd, graphKind, litKind, markKind, sheetEnd, sheetKind, stockEnd, stockKind}
+use Rattle.frames.specs.Frames.{orElse, frame4, frame6, frame8, frameOf4}
 use Rattle.frames.specs.EitherEnd.{withReturns}
 use Rattle.skew.specs.Graph.{canonical}
+use Rattle.counting.specs.Pairs.{Pair}
 use Rattle.matching.specs.Stock.{Stock, isPlan}
+use Rattle.matching.specs.Budget.{gain, isBudgeted, searchOneByOne}
 use Rattle.files.specs.GraphFile.{graphIn, graphFault}
-use Rattle.files.specs.StockFile.{stockIn, stockFault, planText, sheetText}
+use Rattle.files.specs.StockFile.{stockIn, stockFault, planLines, planText, sheetText}
 use Rattle.files.specs.CertificateFile.{pathText, barrierText}
-use Rattle.lanes.specs.Entry.{sheetOfFile, checkPost}
+use Rattle.lanes.specs.Entry.{sheetOfFile, checkPost, mostFault, budgetFault, budgetTextOf}
 use Rattle.lanes.specs.Promise.{arc, graphOf, g4, g5}
 use Rattle.lanes.specs.declared.Verdict.the-variants.{Refused, Yes, No}
 
@@ -113,3 +118,33 @@ KnownIsolated =
     frame4 sheetKind 2 ++ frame6 markKind 0 3 ++ frame6 markKind 1 1 ++ frame6 markKind 2 0 ++ frame6 markKind 3 0 ++ frame6 markKind 4 0 ++
     frame6 markKind 5 2 ++ frame6 markKind 6 2 ++ frame6 markKind 7 3 ++ frameOf4 sheetEnd 8) ×
     (isPlan fourMarks (arc 1 2 ∷ arc 5 6 ∷ []) ≡ true)
+
+-- A BUDGET OF SEARCHES (document 02, L4)
+abbrev pub s5 : Stock
+s5 = stockIn s5File
+
+abbrev pub s5Plan : List Pair
+s5Plan = arc 0 1 ∷ arc 2 3 ∷ []
+
+abbrev pub oneFit : (cameras : ℕ) → Stock
+oneFit n = record { cameras = n; fits = arc 0 1 ∷ []; lit = [] }
+
+abbrev pub noCameras : Stock
+noCameras = record { cameras = 0; fits = []; lit = [] }
+
+abbrev pub Budgets : Stock → (most : ℕ) → (pairs : List Pair) → (searches missing : ℕ) → Type 0
+Budgets s b ps k m =
+    (isBudgeted s b ps ≡ true) × (budgetTextOf s b ps ≡ frame8 budgetKind (length ps) k m ++ planLines ps ++ frameOf4 budgetEnd (length ps))
+
+-- S5: 61010001, 520102, 6F0001; 61020100 and its plan; 61020200, also of 64 searches. One fit among five cameras: its pair is largest after one search,
+-- and the second tells. Among three, one camera is left over, and half of it is rounded down. No cameras. Then question 15
+abbrev pub KnownBudgets : Type 0
+KnownBudgets =
+    Budgets s5 0 (arc 1 2 ∷ []) 0 1 × Budgets s5 1 s5Plan 1 0 × Budgets s5 2 s5Plan 2 0 × Budgets s5 64 s5Plan 2 0 ×
+    (isBudgeted s5 1 (arc 1 2 ∷ []) ≡ false) × (isBudgeted s5 0 s5Plan ≡ false) ×
+    (budgetTextOf s5 0 (arc 1 2 ∷ []) ≡
+    (54 ∷ 49 ∷ 48 ∷ 49 ∷ 48 ∷ 48 ∷ 48 ∷ 49 ∷ 10 ∷ 53 ∷ 50 ∷ 48 ∷ 49 ∷ 48 ∷ 50 ∷ 10 ∷ 54 ∷ 70 ∷ 48 ∷ 48 ∷ 48 ∷ 49 ∷ 10 ∷ [])) ×
+    Budgets (oneFit 5) 0 [] 0 2 × Budgets (oneFit 5) 1 (arc 0 1 ∷ []) 1 1 × Budgets (oneFit 5) 2 (arc 0 1 ∷ []) 2 0 ×
+    Budgets (oneFit 3) 1 (arc 0 1 ∷ []) 1 0 × Budgets noCameras 0 [] 0 0 × Budgets noCameras 1 [] 1 0 × Budgets noCameras 64 [] 1 0 ×
+    (searchOneByOne 64 (gain s5) ≡ record { searches = 2; found = 1; none = true }) × (mostFault 64 ≡ 0) × (mostFault 65 ≡ 15) ×
+    (budgetFault 65 s5File [] ≡ 1) × (orElse (mostFault 65) (stockFault []) ≡ 15) × (orElse (mostFault 64) (stockFault []) ≡ 4)

@@ -4,8 +4,10 @@
 --   Calls              a refused call by value, and an answered one
 --   GraphCalls         what the graph call answers by value
 --   StockCalls         what the stock calls answer by value, each in one record
+--   BudgetCalls        what the budgeted call answers by value
 --   Promise            what is promised of every file: demands 2 and 3, and the marked set
 --   BytePromise        five of them as document 03 states them
+--   BudgetPromise      what is promised of the budgeted call
 --   EitherEnd          what is promised where lines end either way
 --   Known              known graphs and stocks as files, byte for byte
 pub mod Entry
@@ -13,7 +15,9 @@ pub mod Verdicts
 pub mod Calls
 pub mod GraphCalls
 pub mod StockCalls
+pub mod BudgetCalls
 pub mod Promise
 pub mod BytePromise
+pub mod BudgetPromise
 pub mod EitherEnd
 pub mod Known

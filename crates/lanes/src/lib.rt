@@ -1,16 +1,19 @@
-// The pairing engine's calls (document 01, "Questions put to a call"): a graph, a stock for a plan, a stock for a standing sheet, and the check.
-//   answer_graph, plan, sheet    answered in a lent buffer, and counted in a lent tally
-//   check                        a certificate judged; it lends no buffer and counts nothing
-//   graph_calls, stock_calls     the first three by value: what is told, and what it came to, uncounted
-//   calls                        what those share: a refused call, and an answered one
-//   tallies                      the tally counted up, by value and lent
-//   verdicts                     a certificate judged against a graph that was read
+// The pairing engine's calls (document 01, "Questions put to a call"): a graph, a stock for a plan, a stock for a standing sheet, and the
+// check; and a stock for what a budget of searches comes to (document 02, L4).
+//   answer_graph, plan, sheet, budget     answered in a lent buffer, and counted in a lent tally
+//   check                                 a certificate judged; it lends no buffer and counts nothing
+//   graph_calls, stock_calls, budget_calls     the first four by value: what is told, and what it came to, uncounted
+//   calls                                 what those share: a refused call, and an answered one
+//   tallies                               the tally counted up, by value and lent
+//   verdicts                              a certificate judged against a graph that was read
+pub mod budget_calls;
 mod calls;
 pub mod graph_calls;
 pub mod stock_calls;
 pub mod tallies;
 mod verdicts;
 
+use budget_calls::budget_by;
 use files::graphs::read_graph;
 use formats::limits::ARCS_MOST;
 use graph_calls::answer_graph_by;
@@ -19,7 +22,7 @@ use stock_calls::sheet_by;
 use tallies::count;
 use verdicts::judge;
 ghost use mathlib.Core.Path.{_≡_};
-ghost use Rattle.lanes.specs.Entry.{GraphOwes, graphTally, checkPost, PlanOwes, sheetPost, sheetLeaves, stockTally};
+ghost use Rattle.lanes.specs.Entry.{GraphOwes, graphTally, checkPost, PlanOwes, sheetPost, sheetLeaves, stockTally, BudgetOwes, budgetTally};
 
 // Counts of what the calls came to; a count at its largest stays there.
 pub struct Tally {
@@ -46,6 +49,18 @@ pub struct Told {
 // A call's result and what it came to, before it is counted.
 pub struct Answer {
     pub told: Told,
+    pub outcome: Outcome,
+}
+
+// The budgeted call's result: what is told, and how many searches were run, 0 in a refusal.
+pub struct Searched {
+    pub told: Told,
+    pub searches: u8,
+}
+
+// The budgeted call's result and what it came to, before it is counted.
+pub struct SearchedAnswer {
+    pub searched: Searched,
     pub outcome: Outcome,
 }
 
@@ -85,6 +100,16 @@ pub fn sheet(file: &[u8], out: &mut [u8], tally: &mut Tally) -> Told
     let answer = sheet_by(file, out);
     count(tally, answer.outcome);
     answer.told
+}
+
+// A stock answered with what at most `most` searches come to: which such pairing is left free.
+pub fn budget(file: &[u8], most: u32, out: &mut [u8], tally: &mut Tally) -> Searched
+    ensures { λ r. ⌜ BudgetOwes most (now (file .entry)) (now (out .entry)) r (now (out .exit)) ⌝ }
+    ensures tally { λ r. ⌜ now (tally .exit) ≡ budgetTally most (now (file .entry)) (now (out .entry)) (now (tally .entry)) ⌝ }
+{
+    let answer = budget_by(file, most, out);
+    count(tally, answer.outcome);
+    answer.searched
 }
 
 // A certificate checked: the graph's questions first, then the certificate's with 40 added, then whether it holds.

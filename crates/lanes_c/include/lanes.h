@@ -1,4 +1,4 @@
-/* The pairing engine's calls, in liblanes_c.a (document 01, "Questions put to a call").
+/* The pairing engine's calls, in liblanes_c.a (document 01, "Questions put to a call"; lanes_budget: document 02, L4).
  *
  * A file and a buffer are a pointer and a number of bytes, each readable (a buffer also writable) over its whole length during the call; a buffer
  * overlaps neither the file nor the tally. No pointer is null. A call keeps nothing behind and may run in several threads at once.
@@ -9,8 +9,8 @@
  * 4,294,967,295 stays there. Start with zeros and hand the same four to every call.
  *
  * A call returns the refusal (the number of the first question answered no, or 0 for an answer) in the lowest byte and the answer's bytes above:
- * LANES_NUMBER and LANES_SIZE. A refusal changes no byte of the buffer; an answer only its own at the front. A buffer of LANES_ROOM bytes
- * holds every answer; a smaller one is refused with 1.
+ * LANES_NUMBER and LANES_SIZE; lanes_budget also the searches that it ran: LANES_SEARCHES. A refusal changes no byte of the buffer; an answer only
+ * its own at the front. A buffer of LANES_ROOM bytes holds every answer; a smaller one is refused with 1.
  */
 #ifndef LANES_H
 #define LANES_H
@@ -25,7 +25,11 @@ extern "C" {
 #define LANES_ROOM 2048
 
 #define LANES_NUMBER(told) ((unsigned)((told) & 0xFF))
-#define LANES_SIZE(told) ((size_t)((told) >> 8))
+#define LANES_SIZE(told) ((size_t)(((told) >> 8) & 0xFFFFFFFF))
+#define LANES_SEARCHES(told) ((unsigned)((told) >> 40))
+
+/* The most searches that lanes_budget may be granted, enough for a plan of every stock. */
+#define LANES_SEARCHES_MOST 64
 
 /* A graph file: a regular path from the source to its mate or, where there is none, the canonical barrier. */
 uint64_t lanes_graph(const uint8_t *file, size_t file_size, uint8_t *out, size_t out_size, uint32_t tally[4]);
@@ -36,6 +40,12 @@ uint64_t lanes_plan(const uint8_t *file, size_t file_size, uint8_t *out, size_t 
 /* A stock file: its standing sheet, the greatest number of pairs and a mark for each camera. 00: some largest pairing leaves it over, and it has a
  * fit; 01: none does, and it fits a camera marked 00; 02: none does, and it fits no such camera; 03: it has no fit at all. */
 uint64_t lanes_sheet(const uint8_t *file, size_t file_size, uint8_t *out, size_t out_size, uint32_t tally[4]);
+
+/* A stock file and how many searches may be run, 0 to LANES_SEARCHES_MOST; more are refused with 15. Each search lights one lane more, every lit camera
+ * still lit, or finds that none can be lit, and then it is the last. The answer is a header 61PPSSMM, the pair lines of a plan, and 6FCCCC: PP pairs
+ * after SS searches. MM is 00 if the last search found none, and otherwise half the cameras left over, rounded down; no pairing has more than PP plus
+ * MM pairs. */
+uint64_t lanes_budget(const uint8_t *file, size_t file_size, uint32_t most, uint8_t *out, size_t out_size, uint32_t tally[4]);
 
 /* A graph file and a certificate, a path or a barrier: 1 for yes, 0 for no, otherwise the refusal, which is 2 or more: the graph's number (2 to 10), or the
  * certificate's with 40 added. */

@@ -5,25 +5,26 @@
 --   refused-high, says-which     so a refusal is 2 or more, and what is said of such a verdict tells it
 --   check-tells                  what the check says tells its verdict
 --   unpacks, calls-tell          number and size can be read off a call's result
+--   budget-tells                 and the searches off the budgeted call's
 use mathlib.Core.Path.{_≡_, refl, ap}
 use mathlib.Core.Bool.{Bool, true, _||_, or-true}
 use mathlib.Core.List.{List}
-use Prim.Native.Nat.{ℕ, _+_, _≤_}
+use Prim.Native.Nat.{ℕ, _+_, _≤_, _<_}
 use native.Mathlib.Omega.{arith}
 use lib.Dec.{leb, eqb}
 use lib.ListN.{length}
 use borrow.Author.Tests.{le-leb, leb-true}
-use Rattle.formats.specs.Limits.{room}
+use Rattle.formats.specs.Limits.{room, searchesMost}
 use Rattle.counting.proofs.Booleans.{by-test}
 use Rattle.frames.specs.Frames.{orElse}
 use Rattle.files.specs.GraphFile.{graphIn, graphFault}
 use Rattle.files.proofs.Asked.{graph-refusal, stock-refusal}
 use Rattle.files.specs.StockFile.{stockFault}
 use Rattle.files.specs.CertificateFile.{certFault, certHolds}
-use Rattle.lanes.specs.Entry.{told, roomFault, answerFault, sheetFault, checkFault, checkPost}
+use Rattle.lanes.specs.Entry.{told, roomFault, answerFault, sheetFault, checkFault, checkPost, mostFault, budgetFault, searched}
 use Rattle.lanes.specs.declared.Verdict.{Verdict}
 use Rattle.lanes.specs.declared.Verdict.the-variants.{Refused, Yes, No}
-use Rattle.lanes_c.specs.Exported.{Unpacks, CallsTell, said, SaysWhich, CheckTells}
+use Rattle.lanes_c.specs.Exported.{Unpacks, CallsTell, UnpacksSearched, BudgetTells, said, SaysWhich, CheckTells}
 
 abbrev noneOrHigh : ℕ → Bool
 noneOrHigh n = eqb n 0 || leb 2 n
@@ -53,16 +54,28 @@ says-which No h = ((λ e. absurd (omega arith), λ e. ap said e), (λ _. refl, �
 pub check-tells : CheckTells
 check-tells f c = says-which (checkPost f c) (refused-high f c)
 
-unpacks : (n k : ℕ) → leb n 14 ≡ true → Unpacks (told n k)
+unpacks : (n k : ℕ) → leb n 15 ≡ true → Unpacks (told n k)
 unpacks n k h =
-    let l = leb-true n 14 h in by-test (eqb n 0) (λ t. rw t (omega (arith, l), omega (arith, l))) (λ t. rw t (omega (arith, l), omega (arith, l)))
+    let l = leb-true n 15 h in by-test (eqb n 0) (λ t. rw t (omega (arith, l), omega (arith, l), λ small. omega (arith, l))) (λ t. rw t (omega (arith, l), omega (arith, l), λ small. omega (arith, l)))
 
 -- question 1, and then those of a file
-after-room : (o : List ℕ) (n : ℕ) → leb n 14 ≡ true → leb (orElse (roomFault o) n) 14 ≡ true
+after-room : (o : List ℕ) (n : ℕ) → leb n 15 ≡ true → leb (orElse (roomFault o) n) 15 ≡ true
 after-room o n h = by-test (leb room (length o)) (λ t. rw t h) (λ t. rw t)
 
 pub calls-tell : CallsTell
 calls-tell f o k = (
-  unpacks (answerFault f o) k (after-room o (graphFault f) (graph-refusal f (λ (n : ℕ). leb n 14) refl refl)),
-  unpacks (sheetFault f o) k (after-room o (stockFault f) (stock-refusal f (λ (n : ℕ). leb n 14) refl refl)),
+  unpacks (answerFault f o) k (after-room o (graphFault f) (graph-refusal f (λ (n : ℕ). leb n 15) refl refl)),
+  unpacks (sheetFault f o) k (after-room o (stockFault f) (stock-refusal f (λ (n : ℕ). leb n 15) refl refl)),
 )
+
+unpacks-searched : (n k j : ℕ) → leb n 15 ≡ true → k < 4294967296 → UnpacksSearched (searched n k j)
+unpacks-searched n k j h small =
+    let l = leb-true n 15 h in
+    by-test (eqb n 0) (λ t. rw t (omega (arith, l), omega (arith, l), omega (arith, l))) (λ t. rw t (omega (arith, l), omega (arith, l), omega (arith, l)))
+
+-- question 15, and then the stock's
+after-most : (b : ℕ) (f : List ℕ) → leb (orElse (mostFault b) (stockFault f)) 15 ≡ true
+after-most b f = by-test (leb b searchesMost) (λ t. rw t (stock-refusal f (λ (n : ℕ). leb n 15) refl refl)) (λ t. rw t)
+
+pub budget-tells : BudgetTells
+budget-tells b f o k j = unpacks-searched (budgetFault b f o) k j (after-room o (orElse (mostFault b) (stockFault f)) (after-most b f))

@@ -16,7 +16,7 @@
 --   Groups           representatives: where the entries of the canonical barrier lead
 --   Decomposition    a doubled table without a path gives the certificate
 --   Largest          no path: the pairing is largest, and the reachable nodes are the marks
---   Plans            a plan for every stock
+--   Plans            a plan for every stock, and what a budget of searches comes to
 --   Promises         the promises, kept
 pub mod Pairs
 pub mod Rising

@@ -1,6 +1,7 @@
 -- Definitions of the theory.
 --   Stock           stocks, pairings, marks, plans
 --   Promise         what is promised of every well-formed stock
+--   Budget          a budget of searches: what it comes to, and what is promised of it
 --   Pairs           lists of pairs: ends, rising
 --   Matching        pairings as involutions
 --   Rotation        rotation of a matching, and along a path
@@ -11,6 +12,7 @@
 --   Certificate     the Gallai-Edmonds decomposition
 pub mod Stock
 pub mod Promise
+pub mod Budget
 pub mod Pairs
 pub mod Matching
 pub mod Rotation

@@ -1,47 +1,104 @@
--- From the lit pairs to a plan by one search after the other.
+-- From the lit pairs to what so many searches come to, and to a plan, by one search after the other.
 --   stock-fits, stock-lit                     what a stock's tables give of its fits and of its lit pairs
---   improving-start                           before the first search
---   stepped-keeps, stepped-less               after any; and the loop ends
+--   improving-start, improving-more           before the first search; after one that found a path
+--   ran-none, ran-all                      after one that found none; after so many
 --   row-lit                                   the row of the lit pairs
---   largest-sheet                             after the last: the marks, and the greatest number of pairs
---   plan-listed                               and the row's pairs are a plan
+--   enough-searches                           question 15's most searches are enough for every stock
+--   budget-listed                             after a run: its numbers are those defined, and the row's pairs are such a pairing
+--   largest-sheet                             with searches enough: the marks, and the greatest number of pairs
+--   plan-listed                               and the pairs are a plan
 use mathlib.Core.Path.{_≡_, refl, sym, ap, subst, _∙_}
-use mathlib.Core.Logic.{inl, inr, ⊎-elim}
 use mathlib.Core.Bool.{Bool, true, false}
 use mathlib.Core.List.{List}
-use Prim.Native.Nat.{ℕ, suc, _+_, _*_, _<_}
+use Prim.Native.Nat.{ℕ, suc, _+_, _*_, _≤_, _<_}
 use native.Mathlib.Omega.{arith}
 use lib.ListN.{length, getD}
-use Rattle.counting.specs.Tests.{pick, below}
+use borrow.Author.Tests.{lt-ltb, le-ltb}
+use Rattle.formats.specs.Limits.{camerasMost, searchesMost}
+use Rattle.counting.specs.Tests.{below}
 use Rattle.counting.specs.Lists.{In}
 use Rattle.counting.specs.Pairs.{Pair, pair, noPair, zipPairs}
-use Rattle.counting.proofs.Booleans.{by-test}
+use Rattle.counting.proofs.Booleans.{by-test, true-false}
 use Rattle.counting.proofs.Membership.{getD-in}
 use Rattle.counting.proofs.Zips.{zip-length, zip-at}
 use Rattle.skew.specs.Graph.{isReachable, hasPath}
-use Rattle.matching.specs.Stock.{Stock, isIncluded, isPairing, isPlan}
-use Rattle.matching.specs.Matching.{FitsBelow, Matching, unlit, partner, pairsInOrder}
-use Rattle.matching.specs.Rotation.{Augments}
+use Rattle.matching.specs.Stock.{Stock, isIncluded, isPairing}
+use Rattle.matching.specs.Promise.{WellFormedStock}
+use Rattle.matching.specs.Budget.{gain, gained, searchesRun, foundNone}
+use Rattle.matching.specs.Matching.{FitsBelow, Matching, unlit, partner, litFits, pairsInOrder}
 use Rattle.matching.specs.Row.{partnerIn}
 use Rattle.matching.specs.Flags.{isFlagged}
 use Rattle.matching.specs.DoubledTable.{doubledTable, marksBy}
 use Rattle.matching.proofs.Rising.{rising-ordered}
-use Rattle.matching.proofs.Matchings.{list-fits, list-matching, list-count, lit-count}
+use Rattle.matching.proofs.Matchings.{list-fits, list-matching, list-count, lit-pairing, lit-count}
 use Rattle.matching.proofs.InOrder.{pairs-lit}
+use Rattle.matching.proofs.Greatest.{greatest-bound}
 use Rattle.matching.proofs.Largest.{no-path-marks, no-path-pairs}
-use Rattle.matching.proofs.Plans.{augmented-plan}
-use Rattle.matching.proofs.Promises.{well-formed-fits, well-formed-lit}
+use Rattle.matching.proofs.Plans.{augmented-budgeted}
+use Rattle.matching.proofs.Promises.{well-formed-fits, well-formed-lit, gain-few, budget-plans}
 use Rattle.pairing.specs.Table.{stockOf, PairTable, FitTable, PairsWritten}
-use Rattle.pairing.specs.Plan.{StockTable, Ended, Stepped, Improving, LargestFrom, PlanListed, Sheet}
+use Rattle.pairing.specs.Plan.{StockTable, Ended, Stepped, Improving, Ran, RanFrom, BudgetListed, PlanListed, Sheet}
+use Rattle.pairing.specs.declared.plan.Ending.{Ending}
+use Rattle.pairing.specs.declared.plan.PairsFound.{PairsFound}
+
+-- ONE SEARCH AFTER THE OTHER
+pub improving-start : (fs : List Pair) (row : List ℕ) → Matching fs (partnerIn row) → Improving fs row row 0
+improving-start fs row M = record { long = refl; matching = M; keeps = λ c ne. ne; count = omega arith; same = λ _. refl }
+
+module _ {fs : List Pair} {row₀ row : List ℕ} {k : ℕ} (I : Improving fs row₀ row k) where
+  pub improving-more : {row′ reached : List ℕ} {z : Bool} → length row′ ≡ length row → Stepped fs row row′ reached z → z ≡ true → Improving fs row₀ row′ (suc k)
+  improving-more {row′} e S more =
+      let A = S .more more in
+      let less : length (unlit (length row′) (partnerIn row′)) + 2 ≡ length (unlit (length row) (partnerIn row)) =
+      ap (λ (n : ℕ). length (unlit n (partnerIn row′)) + 2) e ∙ A .count in
+      record {
+        long = e ∙ I .long;
+        matching = A .matching;
+        keeps = λ c ne. A .keeps c (I .keeps c ne);
+        count = omega (arith, I .count);
+        same = λ z. absurd (omega arith);
+      }
+
+  module _ {most : ℕ} {r : Ending} where
+    pub ran-none : {row′ reached : List ℕ} {z : Bool} → Stepped fs row row′ reached z → z ≡ false → k < most → r .searches ≡ suc k → r .none ≡ true →
+        Ran most fs row₀ row′ reached r
+    ran-none S last less count none =
+        let N = S .none last in
+        record {
+          found = k;
+          improving = subst (λ (z : List ℕ). Improving fs row₀ z k) (sym (N .0)) I;
+          none = λ _. (count, less, N .1);
+          all = λ t. true-false none t;
+        }
+
+    pub ran-all : {reached : List ℕ} → k ≡ most → r .searches ≡ k → r .none ≡ false → Ran most fs row₀ row reached r
+    ran-all all count more =
+        record { found = k; improving = I; none = λ t. true-false t more; all = λ _. (count, all) }
+
+-- ENOUGH SEARCHES: 127 cameras have at most 63 pairs, and one more search tells that there is no other
+pub enough-searches : (s : Stock) → WellFormedStock s → s .cameras ≤ camerasMost → gain s < searchesMost
+enough-searches s W few = omega (arith, gain-few s W)
 
 -- THE STOCK'S TABLES
 module _ (n : ℕ) (firsts seconds litFirsts litSeconds : List ℕ) (T : StockTable n firsts seconds litFirsts litSeconds) where
   abbrev s : Stock
   s = stockOf n firsts seconds litFirsts litSeconds
 
+  abbrev fs : List Pair
+  fs = zipPairs firsts seconds
+
+  abbrev ps : List Pair
+  ps = zipPairs litFirsts litSeconds
+
+  F : FitsBelow n fs
+  F = well-formed-fits s (T .well-formed)
+
+  lit : isPairing fs ps ≡ true
+  lit = well-formed-lit s (T .well-formed)
+
   pub stock-fits : FitTable n firsts seconds
   stock-fits =
-      record { as-long = T .as-long; cameras-few = T .cameras-few; fits-few = T .fits-few; fits = well-formed-fits s (T .well-formed) }
+      record { as-long = T .as-long; cameras-few = T .cameras-few; fits-few = T .fits-few; fits = F }
 
   pub stock-lit : PairTable n litFirsts litSeconds
   stock-lit = record { as-long = T .lit-as-long; first = λ i h. omega (arith, named i h); second = λ i h. named i h .1 }
@@ -49,48 +106,89 @@ module _ (n : ℕ) (firsts seconds litFirsts litSeconds : List ℕ) (T : StockTa
       named : (i : ℕ) → i < length litFirsts → (getD litFirsts i 0 < getD litSeconds i 0) × (getD litSeconds i 0 < n)
       named i h =
           let x = pair (getD litFirsts i 0) (getD litSeconds i 0) in
-          let m : In x (zipPairs litFirsts litSeconds) = rw (← zip-at litFirsts litSeconds i (T .lit-as-long) h) (getD-in (zipPairs litFirsts litSeconds) noPair i (omega (arith, zip-length litFirsts litSeconds (T .lit-as-long)))) in
-          let F = well-formed-fits s (T .well-formed) in
-          let f = list-fits n (zipPairs firsts seconds) F (zipPairs litFirsts litSeconds) (well-formed-lit s (T .well-formed)) x m in
-          (rising-ordered (zipPairs firsts seconds) (F .rising) x f, F .named x f)
+          let m : In x ps = rw (← zip-at litFirsts litSeconds i (T .lit-as-long) h) (getD-in ps noPair i (omega (arith, zip-length litFirsts litSeconds (T .lit-as-long)))) in
+          let f = list-fits n fs F ps lit x m in (rising-ordered fs (F .rising) x f, F .named x f)
 
-  stock-matching : Matching (zipPairs firsts seconds) (partner (zipPairs litFirsts litSeconds))
-  stock-matching = list-matching n (zipPairs firsts seconds) (well-formed-fits s (T .well-formed)) (zipPairs litFirsts litSeconds) (well-formed-lit s (T .well-formed))
+  stock-matching : Matching fs (partner ps)
+  stock-matching = list-matching n fs F ps lit
 
--- ONE SEARCH AFTER THE OTHER
-pub improving-start : (fs : List Pair) (row : List ℕ) → Matching fs (partnerIn row) → Improving fs row row
-improving-start fs row M = record { long = refl; matching = M; keeps = λ k ne. ne; changed = inl refl }
+  -- WHAT A RUN COMES TO
+  module _ {most : ℕ} {row reached : List ℕ} {r : Ending} (G : RanFrom most fs ps n row reached r) where
+    abbrev p : ℕ → ℕ
+    p = partnerIn row
 
-unlit-less : (fs : List Pair) (row row′ : List ℕ) → length row′ ≡ length row → Augments (length row) fs (partnerIn row) (partnerIn row′) →
-    length (unlit (length row′) (partnerIn row′)) + 2 ≡ length (unlit (length row) (partnerIn row))
-unlit-less fs row row′ e A = ap (λ (n : ℕ). length (unlit n (partnerIn row′)) + 2) e ∙ A .count
+    abbrev R : Ran most fs (G .start) row reached r
+    R = G .ran
 
-improving-more : (fs : List Pair) (row₀ row row′ : List ℕ) → length row′ ≡ length row → Improving fs row₀ row →
-    Augments (length row) fs (partnerIn row) (partnerIn row′) → Improving fs row₀ row′
-improving-more fs row₀ row row′ e I A =
-    let less = unlit-less fs row row′ e A in
-    record {
-      long = e ∙ I .long;
-      matching = A .matching;
-      keeps = λ k ne. A .keeps k (I .keeps k ne);
-      changed =
-          inr
-          (⊎-elim (λ q. let z : length (unlit (length row) (partnerIn row)) ≡ length (unlit (length row₀) (partnerIn row₀)) = ap (λ (r : List ℕ). length (unlit (length r) (partnerIn r))) q in omega arith)
-          (λ q. omega arith) (I .changed));
-    }
+    abbrev I : Improving fs (G .start) row (R .found)
+    I = R .improving
 
-pub stepped-keeps : (fs : List Pair) (row₀ row row′ reached : List ℕ) (r : Bool) → length row′ ≡ length row → Improving fs row₀ row → Stepped fs row row′ reached r →
-    Improving fs row₀ row′ × (r ≡ false → Ended fs row′ reached)
-stepped-keeps fs row₀ row row′ reached r e I S = (
-  by-test r (λ t. improving-more fs row₀ row row′ e I (S .more t)) (λ t. subst (λ (z : List ℕ). Improving fs row₀ z) (sym (S .none t .0)) I),
-  λ t. S .none t .1,
-)
+    abbrev M : Matching fs p
+    M = I .matching
 
-pub stepped-less : (fs : List Pair) (row row′ reached : List ℕ) (r : Bool) → length row′ ≡ length row → Stepped fs row row′ reached r →
-    pick r 1 0 + length (unlit (length row′) (partnerIn row′)) < 1 + length (unlit (length row) (partnerIn row))
-stepped-less fs row row′ reached r e S =
-    by-test r (λ t. rw t (omega (arith, unlit-less fs row row′ e (S .more t))))
-    (λ t. rw t (omega (arith, ap (λ (z : List ℕ). length (unlit (length z) (partnerIn z))) (S .none t .0))))
+    same : length row ≡ n
+    same = I .long ∙ G .long
+
+    -- each search that found a path gave a pair
+    grown : length (litFits p fs) ≡ length ps + R .found
+    grown =
+        let a : length (unlit (length row) p) ≡ length (unlit n p) = ap (λ (m : ℕ). length (unlit m p)) same in
+        let b : length (unlit (length (G .start)) (partnerIn (G .start))) ≡ length (unlit n (partner ps)) =
+        ap (λ (m : ℕ). length (unlit m (partnerIn (G .start)))) (G .long) ∙ ap (λ (f : ℕ → ℕ). length (unlit n f)) (G .lit) in
+        omega (arith, list-count n fs F ps lit, lit-count n fs F p M, I .count)
+
+    no-path : Ended fs row reached → hasPath (doubledTable n fs p) ≡ false
+    no-path E = subst (λ (m : ℕ). hasPath (doubledTable m fs p) ≡ false) same (E .no-path)
+
+    -- a search that found none tells that the pairs are largest
+    counts : (R .found ≡ gained s most) × (r .searches ≡ searchesRun s most) × (r .none ≡ foundNone s most)
+    counts =
+        let few = greatest-bound n fs F (litFits p fs) (lit-pairing n fs F p M) in
+        let g = grown in
+        by-test (r .none)
+        (λ t.
+        let e = R .none t in
+        let h = e .0 in
+        let less = e .1 in
+        let all = no-path-pairs n fs F p M (no-path (e .2)) in
+        (omega arith, omega arith, t ∙ sym (lt-ltb (gain s) most (omega arith))))
+        (λ t.
+        let e = R .all t in
+        let h = e .0 in
+        let whole = e .1 in
+        (omega arith, omega arith, t ∙ sym (le-ltb (gain s) most (omega arith))))
+
+    pub budget-listed : {xs ys xs′ ys′ : List ℕ} {k : PairsFound} → PairsWritten xs ys 0 xs′ ys′ (k .pairs) (pairsInOrder p (below (length row))) → k .ending ≡ r →
+        BudgetListed most s xs ys xs′ ys′ k
+    budget-listed W is =
+        let found = counts .0 in
+        let listed = ap (λ (l : List Pair). length l) (pairs-lit n fs F p M) in
+        record {
+          pairs = pairsInOrder p (below (length row));
+          budgeted =
+              rw same (augmented-budgeted s F lit (T .well-formed .litRising) most p M (λ c ne. I .keeps c (λ z. ne (sym (ap (λ (f : ℕ → ℕ). f c) (G .lit)) ∙ z))) (omega (arith, grown))
+              (λ z. ap (λ (l : List ℕ). partnerIn l) (I .same (omega arith)) ∙ G .lit));
+          searches = rw is (counts .1);
+          none = rw is (counts .2);
+          written = W;
+        }
+
+    pub largest-sheet : most ≡ searchesMost → (ms₀ : List ℕ) {ms : List ℕ} {k : ℕ} → length ms₀ ≡ n → ms ≡ marksBy (isIncluded fs) (isFlagged reached) (below (length ms₀)) → k ≡ length (pairsInOrder p (below (length row))) →
+        Sheet n fs ms k
+    largest-sheet enough ms₀ l m c =
+        let E = ended enough in
+        record {
+          marks =
+              m ∙ ap (λ (k : ℕ). marksBy (isIncluded fs) (isFlagged reached) (below k)) l ∙
+              sym (no-path-marks n fs F p M (no-path E) (isFlagged reached)
+              (subst (λ (k : ℕ). (v : ℕ) → v < 2 * suc k → isFlagged reached v ≡ isReachable (doubledTable k fs p) v) same (E .tells)));
+          count =
+              c ∙ ap (λ (k : ℕ). length (pairsInOrder p (below k))) same ∙ ap (λ (xs : List Pair). length xs) (pairs-lit n fs F p M) ∙
+              no-path-pairs n fs F p M (no-path E);
+        }
+      where
+        ended : most ≡ searchesMost → Ended fs row reached
+        ended enough = R .none (counts .2 ∙ lt-ltb (gain s) most (omega (arith, enough-searches s (T .well-formed) (T .cameras-few)))) .2
 
 -- a row read from the lit pairs
 pub row-lit : (row₀ row firsts seconds litFirsts litSeconds : List ℕ) → StockTable (length row) firsts seconds litFirsts litSeconds → length row₀ ≡ length row → partnerIn row₀ ≡ partner (zipPairs litFirsts litSeconds) →
@@ -100,70 +198,12 @@ row-lit row₀ row firsts seconds litFirsts litSeconds T e q = (
   subst (λ (p : ℕ → ℕ). Matching (zipPairs firsts seconds) p) (sym q) (stock-matching (length row) firsts seconds litFirsts litSeconds T),
 )
 
--- THE LAST
-module _ (n : ℕ) (firsts seconds litFirsts litSeconds : List ℕ) (T : StockTable n firsts seconds litFirsts litSeconds) {row reached : List ℕ}
-    (G : LargestFrom (zipPairs firsts seconds) (zipPairs litFirsts litSeconds) n row reached) where
-  abbrev fs : List Pair
-  fs = zipPairs firsts seconds
-
-  abbrev ps : List Pair
-  ps = zipPairs litFirsts litSeconds
-
-  abbrev p : ℕ → ℕ
-  p = partnerIn row
-
-  abbrev I : Improving fs (G .start) row
-  I = G .largest .improving
-
-  abbrev M : Matching fs p
-  M = I .matching
-
-  F : FitsBelow n fs
-  F = well-formed-fits (stockOf n firsts seconds litFirsts litSeconds) (T .well-formed)
-
-  same : length row ≡ n
-  same = I .long ∙ G .long
-
-  no-path : hasPath (doubledTable n fs p) ≡ false
-  no-path = subst (λ (m : ℕ). hasPath (doubledTable m fs p) ≡ false) same (G .largest .ended .no-path)
-
-  pub largest-sheet : (ms₀ : List ℕ) {ms : List ℕ} {r : ℕ} → length ms₀ ≡ n → ms ≡ marksBy (isIncluded fs) (isFlagged reached) (below (length ms₀)) → r ≡ length (pairsInOrder p (below (length row))) →
-      Sheet n fs ms r
-  largest-sheet ms₀ l m c =
-      record {
-        marks =
-            m ∙ ap (λ (k : ℕ). marksBy (isIncluded fs) (isFlagged reached) (below k)) l ∙
-            sym (no-path-marks n fs F p M no-path (isFlagged reached)
-            (subst (λ (k : ℕ). (v : ℕ) → v < 2 * suc k → isFlagged reached v ≡ isReachable (doubledTable k fs p) v) same (G .largest .ended .tells)));
-        count =
-            c ∙ ap (λ (k : ℕ). length (pairsInOrder p (below k))) same ∙ ap (λ (xs : List Pair). length xs) (pairs-lit n fs F p M) ∙
-            no-path-pairs n fs F p M no-path;
-      }
-
-  lit : isPairing fs ps ≡ true
-  lit = well-formed-lit (stockOf n firsts seconds litFirsts litSeconds) (T .well-formed)
-
-  grown : length (unlit (length row) p) < length (unlit (length (G .start)) (partnerIn (G .start))) → length ps < length (pairsInOrder p (below n))
-  grown less =
-      let a : length (unlit (length row) p) ≡ length (unlit n p) = ap (λ (m : ℕ). length (unlit m p)) same in
-      let b : length (unlit (length (G .start)) (partnerIn (G .start))) ≡ length (unlit n (partner ps)) =
-      ap (λ (m : ℕ). length (unlit m (partnerIn (G .start)))) (G .long) ∙ ap (λ (f : ℕ → ℕ). length (unlit n f)) (G .lit) in
-      omega (arith, list-count n fs F ps lit, lit-count n fs F p M, ap (λ (l : List Pair). length l) (pairs-lit n fs F p M))
-
-  largest-plan : isPlan (stockOf n firsts seconds litFirsts litSeconds) (pairsInOrder p (below n)) ≡ true
-  largest-plan =
-      augmented-plan (stockOf n firsts seconds litFirsts litSeconds) F lit (T .well-formed .litRising) p M no-path
-      (λ k ne. I .keeps k (λ z. ne (sym (ap (λ (f : ℕ → ℕ). f k) (G .lit)) ∙ z)))
-      (⊎-elim (λ stays. inl (ap (λ (f : ℕ → ℕ). pairsInOrder f (below n)) (ap (λ (r : List ℕ). partnerIn r) stays ∙ G .lit))) (λ less. inr (grown less))
-      (I .changed))
-
-  pub plan-listed : {xs ys xs′ ys′ : List ℕ} {r : ℕ} → PairsWritten xs ys 0 xs′ ys′ r (pairsInOrder p (below (length row))) →
-      PlanListed (stockOf n firsts seconds litFirsts litSeconds) xs ys xs′ ys′ r
-  plan-listed W =
-      record {
-        pairs = pairsInOrder p (below (length row));
-        plan = rw same largest-plan;
-        count = omega (arith, W .count);
-        firsts = W .firsts;
-        seconds = W .seconds;
-      }
+-- with as many searches as question 15 allows, a budget is a plan
+pub plan-listed : {s : Stock} → WellFormedStock s → s .cameras ≤ camerasMost → {xs ys xs′ ys′ : List ℕ} {k : PairsFound} → BudgetListed searchesMost s xs ys xs′ ys′ k →
+    PlanListed s xs ys xs′ ys′ (k .pairs)
+plan-listed {s} W few B =
+    record {
+      pairs = B .pairs;
+      plan = sym (budget-plans s searchesMost (B .pairs) W (enough-searches s W few) .0) ∙ B .budgeted;
+      written = B .written;
+    }

@@ -7,7 +7,7 @@
 --   Flagging     the flags of cameras that have a fit
 --   Searching    the doubled table as a search sees it, and its answers
 --   Improving    from the lit pairs to a plan, one search after the other
---   Plans        what a caller reads of a plan that it was handed
+--   Listed       what a caller reads of a pairing that it was handed
 pub mod Writing
 pub mod Doubling
 pub mod Following
@@ -16,4 +16,4 @@ pub mod Stores
 pub mod Flagging
 pub mod Searching
 pub mod Improving
-pub mod Plans
+pub mod Listed

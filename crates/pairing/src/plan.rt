@@ -1,6 +1,7 @@
-// Largest pairings (document 01, "Stocks"): from the lit pairs, search and augment until there is no path. Why that is enough:
+// Largest pairings (document 01, "Stocks"): from the lit pairs, search and augment until there is no path, or as often as a budget of searches allows
+// (document 02, L4). Why the searches until there is no path are enough:
 // 1. A regular path of the doubled table from the source to its mate is an augmenting path, a run of rotations that lights two cameras more and unlights
-// none. So every lit camera stays lit, and nothing changes if nothing is gained. (matching/proofs/Augmentation wanted-augments, Plans augmented-plan)
+// none. So every lit camera stays lit, and nothing changes if nothing is gained. (matching/proofs/Augmentation wanted-augments, Plans augmented-budgeted)
 // 2. Where there is no path, the reached nodes give the Gallai-Edmonds decomposition. Outer cameras, with 2k reached, fall into groups of odd size; whatever
 // a camera of a group fits outside it is inner, with 2k+1 reached alone. (matching/specs/Certificate, proofs/Groups, Decomposition certificate)
 // 3. That is the dual solution, the bound of Tutte and Berge: any pairing leaves over a camera of each group but for at most one group for each inner
@@ -9,11 +10,13 @@
 // mark 00, inner 01, the rest 02, whichever pairs are lit; but a camera without a fit, which is outer, has 03, and the fits tell it.
 // (matching/proofs/Augmentation reachable-left, Certificates left-is-outer, Largest no-path-marks)
 // 5. The code's part: one search in proofs/Searching, the loop of searches in proofs/Improving.
+//   Ending, PairsFound   how searches ended; how many pairs there are then, with that
 //   improve              one search
-//   largest              one after the other
-//   largest_from_lit     from the row of the lit pairs
-//   plan, plan_in        the pairs of a plan; the same with the row lent
-//   sheet, sheet_in      marks and the greatest number of pairs; the same with the row and the reached nodes lent
+//   run_searches         one after the other, up to so many
+//   search_from_lit      from the row of the lit pairs
+//   budget, budget_in    the pairs that so many searches come to; the same with the row lent
+//   plan                 the pairs of a plan: searches enough
+//   sheet, sheet_in      marks and the greatest number of pairs, with searches enough; the same with the row and the reached nodes lent
 ghost use mathlib.Core.Path.{_≡_};
 ghost use Prim.Native.Nat.{_+_, _*_, _≤_};
 ghost use lib.ListN.{length};
@@ -21,7 +24,7 @@ ghost use Rattle.matching.specs.Matching.{Matching};
 ghost use Rattle.matching.specs.Row.{partnerIn};
 ghost use Rattle.counting.specs.Pairs.{zipPairs};
 ghost use Rattle.pairing.specs.Table.{stockOf, FitTable};
-ghost use Rattle.pairing.specs.Plan.{StockTable, Stepped, Largest, LargestFrom, PlanListed, Sheet};
+ghost use Rattle.pairing.specs.Plan.{StockTable, Stepped, Ran, RanFrom, BudgetListed, PlanListed, Sheet};
 use crate::marks::marks_of;
 use crate::row::augment;
 use crate::row::pair_count;
@@ -30,8 +33,21 @@ use crate::row::row_of;
 use crate::table::table;
 use formats::limits::ARCS_MOST;
 use formats::limits::CAMERAS_MOST;
+use formats::limits::SEARCHES_MOST;
 use search::answer::Answer;
 use search::answer::path_or_reached;
+
+// How searches ended: how many were run, and whether the last found none.
+pub struct Ending {
+    pub searches: usize,
+    pub none: bool,
+}
+
+// How many pairs there are then, and how the searches ended.
+pub struct PairsFound {
+    pub pairs: usize,
+    pub ending: Ending,
+}
 
 // One search: one pair more along the path found, or the table of reached nodes.
 fn improve(row: &mut [u8], firsts: &[u8], seconds: &[u8], reached: &mut [u8]) -> bool
@@ -62,39 +78,57 @@ fn improve(row: &mut [u8], firsts: &[u8], seconds: &[u8], reached: &mut [u8]) ->
     }
 }
 
-// Searches until there is no path: as many as pairs are gained, and one.
-fn largest(row: &mut [u8], firsts: &[u8], seconds: &[u8], reached: &mut [u8])
+// One search after the other: they end with one that found none, or when `most` have been run.
+fn run_searches(
+    most: usize,
+    row: &mut [u8],
+    firsts: &[u8],
+    seconds: &[u8],
+    reached: &mut [u8],
+) -> Ending
     requires { ⌜ FitTable (length (now row)) (now firsts) (now seconds) ⌝ }
     requires { ⌜ Matching (zipPairs (now firsts) (now seconds)) (partnerIn (now row)) ⌝ }
     requires { ⌜ length (now reached) ≡ 2 * (length (now row) + 1) ⌝ }
-    ensures { λ r. ⌜ Largest (zipPairs (now (firsts .entry)) (now (seconds .entry))) (now (row .entry)) (now (row .exit)) (now (reached .exit)) ⌝ }
+    ensures { λ r. ⌜ Ran most (zipPairs (now (firsts .entry)) (now (seconds .entry))) (now (row .entry)) (now (row .exit)) (now (reached .exit)) r ⌝ }
 {
-    let mut more = true;
-    // invariant: specs/Plan Improving, and Ended where there is no more; falls: unlit cameras, and at last `more`
-    while more {
-        more = improve(row, firsts, seconds, reached);
+    let mut searches = 0;
+    // invariant: specs/Plan Improving; falls: searches left
+    while searches < most {
+        searches += 1;
+        if !improve(row, firsts, seconds, reached) {
+            return Ending {
+                searches,
+                none: true,
+            };
+        }
+    }
+    Ending {
+        searches,
+        none: false,
     }
 }
 
-// From the row of the lit pairs to the row of a largest pairing, and the nodes that the last search reached.
-fn largest_from_lit(
+// From the row of the lit pairs to the row that so many searches come to, and the nodes that the last one reached.
+fn search_from_lit(
+    most: usize,
     row: &mut [u8],
     firsts: &[u8],
     seconds: &[u8],
     lit_firsts: &[u8],
     lit_seconds: &[u8],
     reached: &mut [u8],
-)
+) -> Ending
     requires { ⌜ StockTable (length (now row)) (now firsts) (now seconds) (now «lit_firsts») (now «lit_seconds») ⌝ }
     requires { ⌜ length (now reached) ≡ 2 * (length (now row) + 1) ⌝ }
-    ensures { λ r. ⌜ LargestFrom (zipPairs (now (firsts .entry)) (now (seconds .entry))) (zipPairs (now («lit_firsts» .entry)) (now («lit_seconds» .entry))) (length (now (row .entry))) (now (row .exit)) (now (reached .exit)) ⌝ }
+    ensures { λ r. ⌜ RanFrom most (zipPairs (now (firsts .entry)) (now (seconds .entry))) (zipPairs (now («lit_firsts» .entry)) (now («lit_seconds» .entry))) (length (now (row .entry))) (now (row .exit)) (now (reached .exit)) r ⌝ }
 {
     row_of(row, lit_firsts, lit_seconds);
-    largest(row, firsts, seconds, reached);
+    run_searches(most, row, firsts, seconds, reached)
 }
 
-// A plan, with the row lent.
-fn plan_in(
+// What so many searches come to, with the row lent.
+fn budget_in(
+    most: usize,
     row: &mut [u8],
     firsts: &[u8],
     seconds: &[u8],
@@ -102,14 +136,15 @@ fn plan_in(
     lit_seconds: &[u8],
     pair_firsts: &mut [u8],
     pair_seconds: &mut [u8],
-) -> usize
+) -> PairsFound
     requires { ⌜ StockTable (length (now row)) (now firsts) (now seconds) (now «lit_firsts») (now «lit_seconds») ⌝ }
     requires { ⌜ (length (now row) ≤ length (now «pair_firsts»)) × (length (now row) ≤ length (now «pair_seconds»)) ⌝ }
-    ensures { λ r. ⌜ PlanListed (stockOf (length (now (row .entry))) (now (firsts .entry)) (now (seconds .entry)) (now («lit_firsts» .entry)) (now («lit_seconds» .entry))) (now («pair_firsts» .entry)) (now («pair_seconds» .entry)) (now («pair_firsts» .exit)) (now («pair_seconds» .exit)) r ⌝ }
+    ensures { λ r. ⌜ BudgetListed most (stockOf (length (now (row .entry))) (now (firsts .entry)) (now (seconds .entry)) (now («lit_firsts» .entry)) (now («lit_seconds» .entry))) (now («pair_firsts» .entry)) (now («pair_seconds» .entry)) (now («pair_firsts» .exit)) (now («pair_seconds» .exit)) r ⌝ }
 {
     let mut reached = [0u8; 256];
     let nodes = 2 * (row.len() + 1);
-    largest_from_lit(
+    let ending = search_from_lit(
+        most,
         row,
         firsts,
         seconds,
@@ -117,7 +152,36 @@ fn plan_in(
         lit_seconds,
         &mut reached[..nodes],
     );
-    pairs_of(row, pair_firsts, pair_seconds)
+    let pairs = pairs_of(row, pair_firsts, pair_seconds);
+    PairsFound { pairs, ending }
+}
+
+// The pairs that so many searches come to at the front of `pair_firsts` and `pair_seconds`: how many, and how the searches ended.
+pub fn budget(
+    most: usize,
+    cameras: usize,
+    firsts: &[u8],
+    seconds: &[u8],
+    lit_firsts: &[u8],
+    lit_seconds: &[u8],
+    pair_firsts: &mut [u8],
+    pair_seconds: &mut [u8],
+) -> PairsFound
+    requires { ⌜ StockTable cameras (now firsts) (now seconds) (now «lit_firsts») (now «lit_seconds») ⌝ }
+    requires { ⌜ (cameras ≤ length (now «pair_firsts»)) × (cameras ≤ length (now «pair_seconds»)) ⌝ }
+    ensures { λ r. ⌜ BudgetListed most (stockOf cameras (now (firsts .entry)) (now (seconds .entry)) (now («lit_firsts» .entry)) (now («lit_seconds» .entry))) (now («pair_firsts» .entry)) (now («pair_seconds» .entry)) (now («pair_firsts» .exit)) (now («pair_seconds» .exit)) r ⌝ }
+{
+    let mut row = [0u8; CAMERAS_MOST];
+    budget_in(
+        most,
+        &mut row[..cameras],
+        firsts,
+        seconds,
+        lit_firsts,
+        lit_seconds,
+        pair_firsts,
+        pair_seconds,
+    )
 }
 
 // The pairs of a plan at the front of `pair_firsts` and `pair_seconds`: how many.
@@ -134,16 +198,17 @@ pub fn plan(
     requires { ⌜ (cameras ≤ length (now «pair_firsts»)) × (cameras ≤ length (now «pair_seconds»)) ⌝ }
     ensures { λ r. ⌜ PlanListed (stockOf cameras (now (firsts .entry)) (now (seconds .entry)) (now («lit_firsts» .entry)) (now («lit_seconds» .entry))) (now («pair_firsts» .entry)) (now («pair_seconds» .entry)) (now («pair_firsts» .exit)) (now («pair_seconds» .exit)) r ⌝ }
 {
-    let mut row = [0u8; CAMERAS_MOST];
-    plan_in(
-        &mut row[..cameras],
+    let found = budget(
+        SEARCHES_MOST,
+        cameras,
         firsts,
         seconds,
         lit_firsts,
         lit_seconds,
         pair_firsts,
         pair_seconds,
-    )
+    );
+    found.pairs
 }
 
 // A standing sheet, with the row and the table of reached nodes lent.
@@ -161,7 +226,15 @@ fn sheet_in(
     requires { ⌜ length (now marks) ≡ length (now row) ⌝ }
     ensures { λ r. ⌜ Sheet (length (now (row .entry))) (zipPairs (now (firsts .entry)) (now (seconds .entry))) (now (marks .exit)) r ⌝ }
 {
-    largest_from_lit(row, firsts, seconds, lit_firsts, lit_seconds, reached);
+    search_from_lit(
+        SEARCHES_MOST,
+        row,
+        firsts,
+        seconds,
+        lit_firsts,
+        lit_seconds,
+        reached,
+    );
     marks_of(firsts, seconds, reached, marks);
     pair_count(row)
 }

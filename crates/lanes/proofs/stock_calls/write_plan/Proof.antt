@@ -4,7 +4,7 @@ use Prim.Native.Nat.{_≤_}
 use native.Mathlib.Omega.{arith}
 use lib.ListN.{length-take}
 use lib.Seq.{length-take-le}
-use Rattle.lanes.proofs.StockCalls.{listed-few, plan-small, plan-written}
+use Rattle.lanes.proofs.StockCalls.{plan-few, plan-small, plan-written}
 use borrow.Author.Needs.{needs}
 use Rattle.lanes.proofs.stock_calls.write_plan.Statement.{statement}
 use Rattle.lanes.proofs.stock_calls.write_plan.Tie as tie
@@ -14,7 +14,7 @@ abbrev start : tie.After-plan → tie.Start
 start c = c .before .before .before .before .before .before .before .before
 
 few : (c : tie.After-plan) → c .plan .result ≤ 63
-few c = listed-few (start c .pre .0) (c .plan .ensures)
+few c = plan-few (start c .pre .0) (c .plan .ensures)
 
 slice-aggregate-plan : tie.Need-slice-aggregate-plan
 slice-aggregate-plan c = search needs

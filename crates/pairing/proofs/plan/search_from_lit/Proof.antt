@@ -1,18 +1,18 @@
--- The row of the lit pairs is improved until it is largest.
+-- The row of the lit pairs is improved by a run of searches.
 use native.Mathlib.Omega.{arith}
 use denote.Ref.{now}
 use borrow.Author.Needs.{needs}
 use Rattle.pairing.proofs.Improving.{stock-lit, row-lit}
-use Rattle.pairing.proofs.plan.largest_from_lit.Statement.{statement}
-use Rattle.pairing.proofs.plan.largest_from_lit.Tie as tie
+use Rattle.pairing.proofs.plan.search_from_lit.Statement.{statement}
+use Rattle.pairing.proofs.plan.search_from_lit.Tie as tie
 
 row-of-requires : tie.Need-row-of-requires
 row-of-requires c κs =
     let S = c .before .before .before .before .before .before .before in
     (S .pre .0 .cameras-few, stock-lit _ _ _ _ _ (S .pre .0))
 
-largest-requires : tie.Need-largest-requires
-largest-requires c κs =
+run-searches-requires : tie.Need-run-searches-requires
+run-searches-requires c κs =
     let S = c .before .before .before .before .before .before .before .before .before .before .before .before in
     let r = c .before .before .before .before .row-of in
     let lit = row-lit (r .last .0) (now (S .args .row)) _ _ _ _ (S .pre .0) (r .kept .0) (r .ensures) in
@@ -27,8 +27,8 @@ same-length-2 c = search needs
 returns : tie.Need-returns
 returns c =
     let r = c .before .before .before .before .before .before .before .before .before .row-of in
-    record { start = r .last .0; long = r .kept .0; lit = r .ensures; largest = c .before .before .before .before .largest .ensures }
+    record { start = r .last .0; long = r .kept .0; lit = r .ensures; ran = c .before .before .before .before .run-searches .ensures }
 
-pub largest-from-lit-spec : {M : Type 1} → statement M
-largest-from-lit-spec =
-    tie.close (tie.spec row-of-requires largest-requires same-length same-length-2 returns)
+pub search-from-lit-spec : {M : Type 1} → statement M
+search-from-lit-spec =
+    tie.close (tie.spec row-of-requires run-searches-requires same-length same-length-2 returns)

@@ -1,0 +1,31 @@
+-- What a caller reads of a pairing that it was handed at the front of two tables.
+--   plan-pairing      a plan is a pairing
+--   listed-few        two cameras for each pair
+--   listed-read       the pairs, read back
+use mathlib.Core.Path.{_≡_}
+use mathlib.Core.Bool.{true}
+use mathlib.Core.List.{List}
+use Prim.Native.Nat.{ℕ, _*_, _≤_}
+use native.Mathlib.Omega.{arith}
+use lib.ListN.{length}
+use Rattle.counting.specs.Pairs.{Pair, pairsOf}
+use Rattle.counting.proofs.Booleans.{and-five}
+use Rattle.counting.proofs.Zips.{pairs-stored}
+use Rattle.matching.specs.Stock.{Stock, isPairing, isPlan}
+use Rattle.matching.specs.Promise.{WellFormedStock}
+use Rattle.matching.proofs.Matchings.{list-count}
+use Rattle.matching.proofs.Promises.{well-formed-fits}
+use Rattle.pairing.specs.Table.{PairsWritten}
+
+pub plan-pairing : (s : Stock) (ps : List Pair) → isPlan s ps ≡ true → isPairing (s .fits) ps ≡ true
+plan-pairing s ps h = and-five _ _ _ _ _ h .0
+
+module _ {s : Stock} (W : WellFormedStock s) {ps : List Pair} (P : isPairing (s .fits) ps ≡ true) {xs ys xs′ ys′ : List ℕ} {r : ℕ} (w : PairsWritten xs ys 0 xs′ ys′ r ps) where
+  pub listed-few : 2 * r ≤ s .cameras
+  listed-few = omega (arith, w .count, list-count (s .cameras) (s .fits) (well-formed-fits s W) ps P)
+
+  pub listed-read : s .cameras ≤ length xs → s .cameras ≤ length ys → pairsOf r xs′ ys′ ≡ ps
+  listed-read h k =
+      let c : r ≡ length ps = omega (arith, w .count) in
+      let few = listed-few in
+      rw (w .firsts, w .seconds, c) (pairs-stored ps xs ys (omega arith) (omega arith))
