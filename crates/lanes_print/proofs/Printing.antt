@@ -3,7 +3,7 @@
 --   answer-shows, refusal-shows                what a call told, as it is printed: its answer as it stands, the line of its refusal
 --   shown                                      it is a right answer, or the line of the refusal
 --   one-prints                                 the same of an answer that is fixed
---   graph-prints, plan-prints, sheet-prints    the same of each call, where there is room
+--   graph-prints, plan-prints, budget-prints, sheet-prints    the same of each call, where there is room
 use mathlib.Core.Path.{_≡_, refl, ap, sym, subst, _∙_}
 use mathlib.Core.Bool.{Bool, true, false}
 use mathlib.Core.List.{List}
@@ -17,15 +17,17 @@ use Rattle.io.proofs.Counting.{counts}
 use Rattle.counting.specs.Tests.{pick}
 use Rattle.counting.proofs.Booleans.{true-false}
 use Rattle.skew.specs.Graph.{hasPath, isWanted, canonical}
+use Rattle.frames.specs.Frames.{orElse}
 use Rattle.frames.specs.Writes.{Written}
 use Rattle.frames.proofs.Writes.{written-over, frame4-length}
 use Rattle.files.specs.GraphFile.{graphIn, graphFault}
-use Rattle.files.specs.StockFile.{stockFault, planText}
+use Rattle.files.specs.StockFile.{stockIn, stockFault, planText}
 use Rattle.files.specs.CertificateFile.{pathText, barrierText}
 use Rattle.files.specs.Answers.{over}
-use Rattle.lanes.specs.Entry.{refusalLine, told, answerFault, sheetFault, Answers, GraphOwes, PlanOwes, sheetPost, sheetLeaves, sheetOfFile}
+use Rattle.lanes.specs.Entry.{refusalLine, told, answerFault, sheetFault, Answers, GraphOwes, PlanOwes, sheetPost, sheetLeaves, sheetOfFile, mostFault, budgetFault, budgetTextOf, BudgetOwes}
 use Rattle.lanes.specs.declared.Told.{Told}
-use Rattle.lanes_print.specs.Printed.{RefusedOr, GraphAnswer, GraphText, PlanAnswer, PlanText, sheetPrinted, Shows, PrintsOne, Prints}
+use Rattle.lanes.specs.declared.Searched.{Searched}
+use Rattle.lanes_print.specs.Printed.{RefusedOr, GraphAnswer, GraphText, PlanAnswer, PlanText, BudgetAnswer, BudgetText, sheetPrinted, Shows, PrintsOne, Prints}
 
 -- A TEXT AT THE FRONT
 pub text-prints : {text before after : List ℕ} {size : ℕ} → after ≡ over text before → size ≡ length text → PrintsOne text before after size
@@ -97,6 +99,14 @@ module _ (f : List ℕ) {o v w : List ℕ} {r : Told} {s : ℕ} (h : room ≤ le
       let e : sheetFault f o ≡ stockFault f = rw (le-leb room (length o) h) in
       subst (λ (n : ℕ). Prints (RefusedOr n (PlanAnswer f)) o w s) e
       (shown (g .0) (λ z. let q = g .1 z in (planText (q .0), ((q .0, (q .1 .0, refl)), q .1 .1))) k)
+
+pub budget-prints : (b : ℕ) (f : List ℕ) {o v w : List ℕ} {r : Searched} {s : ℕ} → room ≤ length o → BudgetOwes b f o r v → Shows (r .told) v w s →
+    Prints (BudgetText b f) o w s
+budget-prints b f {o} {v} {w} {r} {s} h g k =
+    let e : budgetFault b f o ≡ orElse (mostFault b) (stockFault f) = rw (le-leb room (length o) h) in
+    subst (λ (n : ℕ). Prints (RefusedOr n (BudgetAnswer b f)) o w s) e
+    (shown (λ z. let q = g .0 z in (ap (λ (x : Searched). x .told) (q .0), q .1))
+    (λ z. let q = g .1 z in (budgetTextOf (stockIn f) b (q .0), ((q .0, (q .1 .0, refl)), (ap (λ (x : Searched). x .told) (q .1 .1), q .1 .2)))) k)
 
 module _ {n : ℕ} (t : List ℕ) {o v w : List ℕ} {r : Told} {s : ℕ} (p : r ≡ told n (length t)) (q : v ≡ pick (eqb n 0) (over t o) o) (k : Shows r v w s) where
   one-refused : eqb n 0 ≡ false → (r ≡ told n 0) × (v ≡ o)
