@@ -1,6 +1,7 @@
 //! Document 01's examples, edges and traps, each with what the document says of it, and the points that it leaves to the reader.
 //!   graph_examples, stock_examples    G1 to G5, S1 to S7
-//!   examples_folder                   the files of examples/ are these and those of known.rs with isolated cameras, and their answers are right
+//!   examples_folder                   the files of examples/ are these and those of known.rs with isolated cameras or budgets, and their
+//!                                     answers are right
 //!   tallies                           calls in a row, with counts at and near 4,294,967,295
 //!   edges                             sizes at which a question changes its answer, and the buffer's
 //!   traps                             document 01's traps
@@ -15,11 +16,11 @@ use crate::frames::{barrier_file, file, graph_file, pair_lines, path_file, plan_
 use crate::generate::all_fits;
 use crate::graph_trial;
 use crate::judge::{shown, Call, Judge, Trial, LEAST_ROOM};
-use crate::known::{graph, graphs, isolated_examples, stock, stocks, KnownGraph, KnownStock, G3, G4, G5, S7};
+use crate::known::{graph, graphs, isolated_examples, stock, stocks, KnownGraph, KnownStock, G3, G4, G5, S5_BUDGETS, S7};
 use crate::line_ends::cr_lf;
 use crate::prints::verdict_line;
 use crate::stock_trial;
-use crate::truth::{graph_owed, graph_truth, plan_owed, sheet_owed, stock_truth, Count};
+use crate::truth::{budget_owed, graph_owed, graph_truth, plan_owed, sheet_owed, stock_truth, Count};
 use std::fs;
 
 /// What the trial itself says, against the documents.
@@ -124,6 +125,7 @@ pub fn edges(judge: &mut Judge) -> Trial {
         judge.lend(Call::Plan, &s7, room, &plan_owed(&stock_truth(&s7)))?;
         judge.lend(Call::Sheet, &s7, room, &sheet_owed(&stock_truth(&s7)))?;
         judge.lend(Call::Sheet, b"", room, &sheet_owed(&stock_truth(b"")))?;
+        judge.lend(Call::Budget(2), &s7, room, &budget_owed(&stock_truth(&s7), 2))?;
     }
     file_lengths(judge)
 }
@@ -166,7 +168,7 @@ pub fn traps(judge: &mut Judge) -> Trial {
 pub fn tallies(judge: &mut Judge) -> Trial {
     let (barred, open) = (graph(1, &[]).file(), graph(1, &[(0, 1), (0, 1)]).file());
     let chain = stock(4, &[(0, 1), (1, 2), (2, 3)], &[(1, 2)]).file();
-    let calls: [(Call, &[u8], Count); 8] = [
+    let calls: [(Call, &[u8], Count); 12] = [
         (Call::Graph, &open, Count::Paths),
         (Call::Graph, &barred, Count::Barriers),
         (Call::Plan, &chain, Count::Stocks),
@@ -175,6 +177,10 @@ pub fn tallies(judge: &mut Judge) -> Trial {
         (Call::Plan, &barred, Count::Refusals),
         (Call::Sheet, b"\n", Count::Refusals),
         (Call::Graph, &open, Count::Paths),
+        (Call::Budget(0), &chain, Count::Stocks),
+        (Call::Budget(64), &chain, Count::Stocks),
+        (Call::Budget(65), &chain, Count::Refusals),
+        (Call::Budget(1), b"", Count::Refusals),
     ];
     for start in [0, 7, u32::MAX - 2, u32::MAX - 1, u32::MAX] {
         judge.in_a_row(Tally { paths: start, barriers: start, stocks: start, refusals: start }, &calls)?;
@@ -244,6 +250,10 @@ pub fn examples_folder(judge: &mut Judge) -> Trial {
         example_is(&format!("{name}.stock"), &[stock.file()])?;
         example_is(&format!("{name}.sheet"), &[sheet])?;
         example_is(&format!("{name}.plan"), &plans)?;
+    }
+    for (most, answer) in S5_BUDGETS {
+        example_is(&format!("S5.budget{most}"), &[answer.to_vec()])?;
+        one_of("S5", &judge.budget(&example("S5.stock")?, most)?, &[answer.to_vec()])?;
     }
     example_is("S7_crlf.stock", &[cr_lf(&example("S7.stock")?)])?;
     for (name, arcs, right) in [("G4", [0, 2, 1], Verdict::No), ("G5", [0, 2, 5], Verdict::Yes)] {

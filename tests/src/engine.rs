@@ -1,7 +1,8 @@
-//! The engine as the tests see it: document 01's calls, and document 02's look-up.
+//! The engine as the tests see it: document 01's calls, and document 02's look-up and call with a budget.
 //!   Tally, Told, Verdict     the counts; a call's refusal number and answer size; what the check says
+//!   Searched                 what a call with a budget tells: the same, and the number of searches
 //!   Fit, Looked              two cameras as the look-up takes them; what it answers
-//!   Engine                   the four calls, and the look-up
+//!   Engine                   the five calls, and the look-up
 //!   linked, Library          the proved engine in its static libraries (only where they are linked, see build.rs)
 
 #[derive(Clone, Copy, Debug, Default, PartialEq)]
@@ -17,6 +18,13 @@ pub struct Tally {
 pub struct Told {
     pub number: u8,
     pub size: usize,
+}
+
+/// `searches` is how many were run, 0 for a refusal.
+#[derive(Clone, Copy, Debug, PartialEq)]
+pub struct Searched {
+    pub told: Told,
+    pub searches: u64,
 }
 
 #[derive(Clone, Copy, Debug, PartialEq)]
@@ -40,6 +48,8 @@ pub trait Engine {
     fn answer_graph(&self, file: &[u8], out: &mut [u8], tally: &mut Tally) -> Told;
     fn plan(&self, file: &[u8], out: &mut [u8], tally: &mut Tally) -> Told;
     fn sheet(&self, file: &[u8], out: &mut [u8], tally: &mut Tally) -> Told;
+    /// A stock, and the number of searches that are granted.
+    fn budget(&self, file: &[u8], most: u32, out: &mut [u8], tally: &mut Tally) -> Searched;
     fn check(&self, graph: &[u8], certificate: &[u8]) -> Verdict;
     /// A pair sought among fits: their first cameras stand in one slice, their second ones in the other, up to the shorter length.
     fn look_up(&self, firsts: &[u8], seconds: &[u8], sought: Fit) -> Looked;
@@ -59,11 +69,12 @@ pub fn linked() -> Option<(Box<dyn Engine>, &'static str)> {
 /// The libraries' C functions (crates/lanes_c/include/lanes.h, and the look-up), each slice a pointer and a length, and a safe function
 /// over each.
 /// A call returns its number in the lowest byte and its size above; its tally is four counts: paths, barriers, stocks, refusals.
+/// The call with a budget returns the size in bits 8 to 39 and the number of searches above.
 /// The check returns 1 for yes, 0 for no, and otherwise the refusal, which is never below 2.
 /// The look-up returns 1 where the pair is found, 0 where not, and writes how many fits it looked at.
 #[cfg(lanes_library)]
 mod library {
-    use super::{Engine, Fit, Looked, Tally, Told, Verdict};
+    use super::{Engine, Fit, Looked, Searched, Tally, Told, Verdict};
 
     type Call = unsafe extern "C" fn(*const u8, usize, *mut u8, usize, *mut [u32; 4]) -> u64;
 
@@ -71,6 +82,7 @@ mod library {
         fn lanes_graph(file: *const u8, file_len: usize, out: *mut u8, out_len: usize, tally: *mut [u32; 4]) -> u64;
         fn lanes_plan(file: *const u8, file_len: usize, out: *mut u8, out_len: usize, tally: *mut [u32; 4]) -> u64;
         fn lanes_sheet(file: *const u8, file_len: usize, out: *mut u8, out_len: usize, tally: *mut [u32; 4]) -> u64;
+        fn lanes_budget(file: *const u8, file_len: usize, most: u32, out: *mut u8, out_len: usize, tally: *mut [u32; 4]) -> u64;
         fn lanes_check(graph: *const u8, graph_len: usize, certificate: *const u8, certificate_len: usize) -> u8;
         fn files_look_up(
             firsts: *const u8,
@@ -88,12 +100,19 @@ mod library {
     /// What stands in the place of the look-up's number before the call, and before and after that place.
     const UNTOUCHED: u64 = 0xA5A5_A5A5_A5A5_A5A5;
 
-    fn call(function: Call, file: &[u8], out: &mut [u8], tally: &mut Tally) -> Told {
+    /// Something done with the counts of a tally in an array.
+    fn with_counts(tally: &mut Tally, done: impl FnOnce(&mut [u32; 4]) -> u64) -> u64 {
         let mut counts = [tally.paths, tally.barriers, tally.stocks, tally.refusals];
-        // each pointer, and its length, is that of one slice or array that is borrowed for the length of the call
-        let told = unsafe { function(file.as_ptr(), file.len(), out.as_mut_ptr(), out.len(), &mut counts) };
+        let told = done(&mut counts);
         let [paths, barriers, stocks, refusals] = counts;
         *tally = Tally { paths, barriers, stocks, refusals };
+        told
+    }
+
+    fn call(function: Call, file: &[u8], out: &mut [u8], tally: &mut Tally) -> Told {
+        // each pointer, and its length, is that of one slice or array that is borrowed for the length of the call
+        let told =
+            with_counts(tally, |counts| unsafe { function(file.as_ptr(), file.len(), out.as_mut_ptr(), out.len(), counts) });
         Told { number: told as u8, size: (told >> 8) as usize }
     }
 
@@ -108,6 +127,15 @@ mod library {
 
         fn sheet(&self, file: &[u8], out: &mut [u8], tally: &mut Tally) -> Told {
             call(lanes_sheet, file, out, tally)
+        }
+
+        fn budget(&self, file: &[u8], most: u32, out: &mut [u8], tally: &mut Tally) -> Searched {
+            // as above
+            let told = with_counts(tally, |counts| unsafe {
+                lanes_budget(file.as_ptr(), file.len(), most, out.as_mut_ptr(), out.len(), counts)
+            });
+            let size = (told >> 8) as u32 as usize;
+            Searched { told: Told { number: told as u8, size }, searches: told >> 40 }
         }
 
         fn check(&self, graph: &[u8], certificate: &[u8]) -> Verdict {

@@ -6,7 +6,7 @@
 //!   first_no              the number of the first question answered no
 //!   number                digits of a line as a number
 //!   file                  header, body lines and the end frame that counts them
-//!   graph_file ..         one function for each row of document 01's table
+//!   graph_file ..         one function for each row of document 01's table, and one for the answer to a budget (document 02, L4)
 //! Each question is asked of any bytes whatever, so that a test can tell which of them a file fails beside the first.
 
 pub type Pair = (usize, usize);
@@ -24,6 +24,8 @@ pub const PATH: Form = Form { header: 0x21, header_digits: 0, bodies: &[0x22], e
 pub const BARRIER: Form = Form { header: 0x31, header_digits: 0, bodies: &[0x32], end: 0x3F };
 pub const PLAN: Form = Form { header: 0x51, header_digits: 2, bodies: &[0x52], end: 0x5F };
 pub const SHEET: Form = Form { header: 0x41, header_digits: 2, bodies: &[0x43], end: 0x4F };
+/// After the kind: pairs, searches, and lanes at most still missing.
+pub const BUDGET: Form = Form { header: 0x61, header_digits: 6, bodies: &[0x52], end: 0x6F };
 
 /// The digits after the kind in every body line and in every end frame.
 const BODY_DIGITS: usize = 4;
@@ -164,6 +166,11 @@ pub fn barrier_file(classes: &[usize]) -> Vec<u8> {
 
 pub fn plan_file(pairs: &[Pair]) -> Vec<u8> {
     file(&format!("51{:02X}", pairs.len()), &pair_lines(0x52, pairs), PLAN.end)
+}
+
+pub fn budget_file(pairs: &[Pair], searches: usize, missing: usize) -> Vec<u8> {
+    let header = format!("61{:02X}{searches:02X}{missing:02X}", pairs.len());
+    file(&header, &pair_lines(0x52, pairs), BUDGET.end)
 }
 
 pub fn sheet_file(greatest: usize, marks: &[usize]) -> Vec<u8> {

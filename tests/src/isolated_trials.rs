@@ -16,12 +16,11 @@ use crate::frames::{Pair, Text, SHEET};
 use crate::generate::{
     all_fits, ear_fits, nearly_largest_lit, placed, places_among, some_fits, some_lit, stock_of, stock_with_isolated,
 };
-use crate::judge::{shown, Call, Judge, Trial, LEAST_ROOM};
+use crate::judge::{shown, Call, Judge, Trial};
 use crate::known::{isolated_stocks, KnownStock};
 use crate::large::try_stock;
 use crate::shapes::{row, triangles_in_a_row};
 use crate::stock_trial::{all_pairings, includes, Standing, Stock, ISOLATED};
-use crate::truth::{Count, Owed};
 use std::collections::{BTreeMap, BTreeSet};
 
 // ---- known stocks
@@ -50,9 +49,7 @@ pub fn known_sheets(judge: &mut Judge) -> Trial {
 
 /// A sheet as the engine gives it; its marks are not judged.
 fn given_sheet(judge: &mut Judge, stock: &Stock) -> Result<Vec<u8>, String> {
-    let owed = Owed { number: 0, count: Count::Stocks, is_right: Box::new(|_| true) };
-    judge.seen.files += 1;
-    judge.lend(Call::Sheet, &stock.file(), LEAST_ROOM, &owed)
+    judge.given(Call::Sheet, &stock.file())
 }
 
 fn fault(what: &str, stock: &Stock, sheet: &[u8]) -> Trial {

@@ -4,6 +4,10 @@
 //!   graph_answer          the same, and the answer, empty for a refusal
 //!   graph_all_ways, stock_all_ways    the same with all line ends; what the file gets remains, unless it becomes too long
 //!   made_graph, made_stock    the same of a graph or stock that was made to be accepted
+//!   budget                a file and a number of searches handed to the call with a budget, and judged; the answer
+//!   budget_owing, budget_all_ways    the same where the truth is at hand; with all line ends
+//!   budget_failing        the same where some questions are answered no: the engine's number is counted, with the others of them
+//!   given                 an answer as the engine gives it, whatever the documents say of it
 //!   short_buffers         the same with a buffer that is too small
 //!   all_calls             any bytes handed to every call
 //!   check, certificate    two files handed to the check; the second counted as a file tried
@@ -11,18 +15,20 @@
 //!   in_a_row              calls on one tally
 //!   look_up, look_up_in   a pair looked up among fits, or among those that two slices give, and judged
 //!   looked_up             what a look-up answers, not judged
+//!   Call, OVER            a call, which an engine can be made to answer; numbers of searches that are not granted
 //!   Trial                 done, or what went wrong and on which file
 
-use crate::engine::{Engine, Fit, Looked, Tally, Told, Verdict};
+use crate::engine::{Engine, Fit, Looked, Searched, Tally, Verdict};
 use crate::fit_lists::{joined, parted};
-use crate::frames::GREATEST_FILE;
+use crate::frames::{number, Text, GREATEST_FILE};
 use crate::graph_trial::{self, Graph};
 use crate::line_ends::all_ways;
 use crate::random::Random;
 use crate::seen::{Came, Seen};
 use crate::stock_trial::{self, Stock};
 use crate::truth::{
-    graph_owed, graph_truth, look_up_owed, opening, plan_owed, sheet_owed, stock_truth, Count, GraphTruth, Owed, StockTruth,
+    budget_owed, graph_owed, graph_truth, look_up_owed, opening, plan_owed, sheet_owed, stock_truth, Count, GraphTruth, Owed,
+    StockTruth, MOST_SEARCHES, OVER_BUDGET,
 };
 
 pub type Trial = Result<(), String>;
@@ -32,7 +38,25 @@ pub enum Call {
     Graph,
     Plan,
     Sheet,
+    /// with the number of searches that are granted
+    Budget(u32),
 }
+
+impl Call {
+    /// Only the call with a budget tells searches.
+    pub fn by(self, engine: &dyn Engine, file: &[u8], out: &mut [u8], tally: &mut Tally) -> Searched {
+        let told = match self {
+            Call::Graph => engine.answer_graph(file, out, tally),
+            Call::Plan => engine.plan(file, out, tally),
+            Call::Sheet => engine.sheet(file, out, tally),
+            Call::Budget(most) => return engine.budget(file, most, out, tally),
+        };
+        Searched { told, searches: 0 }
+    }
+}
+
+/// Numbers of searches that question 15 refuses: next to the largest, around one, two and four bytes, and such as end in a small byte.
+pub const OVER: [u32; 10] = [65, 127, 128, 255, 256, 320, 65_536, 65_600, 1 << 31, u32::MAX];
 
 pub struct Judge<'a> {
     engine: &'a dyn Engine,
@@ -98,6 +122,49 @@ impl<'a> Judge<'a> {
         self.stock_all_ways(&stock.file())
     }
 
+    pub fn budget(&mut self, file: &[u8], most: u32) -> Result<Vec<u8>, String> {
+        self.seen.files += 1;
+        self.budget_owing(file, most, &stock_truth(file))
+    }
+
+    pub fn budget_owing(&mut self, file: &[u8], most: u32, truth: &StockTruth) -> Result<Vec<u8>, String> {
+        let room = self.rooms().0;
+        let answer = self.lend(Call::Budget(most), file, room, &budget_owed(truth, most))?;
+        match truth {
+            StockTruth::Accepted(stock, standing) if most <= MOST_SEARCHES => {
+                self.seen.budget(stock, standing.greatest, most, &answer)
+            }
+            _ => (),
+        }
+        Ok(answer)
+    }
+
+    /// What the file gets remains, unless it becomes too long; question 15 is put before that.
+    pub fn budget_all_ways(&mut self, file: &[u8], most: u32, truth: &StockTruth) -> Trial {
+        for other in all_ways(&mut self.random, file) {
+            self.seen.files += 1;
+            self.budget_owing(&other, most, if is_too_long(&other) { &StockTruth::Refused(2) } else { truth })?;
+        }
+        Ok(())
+    }
+
+    /// A file that was made to fail these questions, with a room that is too small, or else one that is large enough.
+    pub fn budget_failing(&mut self, file: &[u8], most: u32, short: Option<usize>, truth: &StockTruth, faults: &[u8]) -> Trial {
+        let room = short.unwrap_or_else(|| self.rooms().0);
+        let (told, _) = self.lent(Call::Budget(most), file, room, &budget_owed(truth, most))?;
+        let of_room = (room < LEAST_ROOM).then_some(1);
+        let of_most = (most > MOST_SEARCHES).then_some(OVER_BUDGET);
+        let failing: Vec<u8> = of_room.into_iter().chain(of_most).chain(faults.iter().copied()).collect();
+        self.seen.budget_refusal(told, &failing);
+        Ok(())
+    }
+
+    pub fn given(&mut self, call: Call, file: &[u8]) -> Result<Vec<u8>, String> {
+        let owed = Owed { number: 0, count: Count::Stocks, is_right: Box::new(|_| true) };
+        self.seen.files += 1;
+        self.lend(call, file, LEAST_ROOM, &owed)
+    }
+
     pub fn certificate(&mut self, graph: &[u8], certificate: &[u8]) -> Trial {
         self.seen.files += 1;
         self.check(graph, certificate)
@@ -160,9 +227,12 @@ impl<'a> Judge<'a> {
         let (room, short) = self.rooms();
         self.lend(Call::Plan, file, room, &plan_owed(truth))?;
         self.lend(Call::Sheet, file, room, &sheet_owed(truth))?;
+        let most = self.some_most();
+        self.budget_owing(file, most, truth)?;
         if let Some(room) = short {
             self.lend(Call::Plan, file, room, &plan_owed(truth))?;
             self.lend(Call::Sheet, file, room, &sheet_owed(truth))?;
+            self.lend(Call::Budget(most), file, room, &budget_owed(truth, most))?;
         }
         Ok(())
     }
@@ -170,7 +240,8 @@ impl<'a> Judge<'a> {
     /// Whatever the file, a buffer of 2,047 gives 1.
     pub fn short_buffers(&mut self, file: &[u8]) -> Trial {
         let owed = Owed { number: 1, count: Count::Refusals, is_right: Box::new(|_| false) };
-        [Call::Graph, Call::Plan, Call::Sheet]
+        let most = self.some_most();
+        [Call::Graph, Call::Plan, Call::Sheet, Call::Budget(most)]
             .into_iter()
             .try_for_each(|call| self.lend(call, file, LEAST_ROOM - 1, &owed).map(drop))
     }
@@ -201,7 +272,7 @@ impl<'a> Judge<'a> {
         let mut tally = start;
         let mut owed = start;
         for (call, file, count) in calls {
-            self.call(*call, file, &mut [0; LEAST_ROOM], &mut tally);
+            call.by(self.engine, file, &mut [0; LEAST_ROOM], &mut tally);
             self.seen.calls += 1;
             owed = raised(owed, *count);
             if tally != owed {
@@ -238,13 +309,18 @@ impl<'a> Judge<'a> {
 
     /// One call with a buffer of a size. Returns the answer, empty for a refusal.
     pub fn lend(&mut self, call: Call, file: &[u8], room: usize, owed: &Owed) -> Result<Vec<u8>, String> {
+        self.lent(call, file, room, owed).map(|(_, answer)| answer)
+    }
+
+    /// The same, and before the answer the refusal number that the engine told.
+    fn lent(&mut self, call: Call, file: &[u8], room: usize, owed: &Owed) -> Result<(u8, Vec<u8>), String> {
         let (number, count) = if room < LEAST_ROOM { (1, Count::Refusals) } else { (owed.number, owed.count) };
         let start = MARGIN + self.random.below(16);
         let before: Vec<u8> = (0..start + room + MARGIN).map(|_| self.random.byte()).collect();
         let tally_before = self.some_tally();
         let mut after = before.clone();
         let mut tally = tally_before;
-        let told = self.call(call, file, &mut after[start..start + room], &mut tally);
+        let Searched { told, searches } = call.by(self.engine, file, &mut after[start..start + room], &mut tally);
         let came = match count {
             Count::Paths => Came::Path,
             Count::Barriers => Came::Barrier,
@@ -266,18 +342,13 @@ impl<'a> Judge<'a> {
         if tally != raised(tally_before, count) {
             return fault(format!("tally {tally:?} after {tally_before:?}, and {count:?} is owed"));
         }
+        if searches != searches_in(call, &answer) {
+            return fault(format!("{searches} searches told, with the answer\n{}to:", shown(&answer)));
+        }
         if number == 0 && !(owed.is_right)(&answer) {
             return fault(format!("wrong answer ({}):\n{}to:", opening(&answer), shown(&answer)));
         }
-        Ok(answer)
-    }
-
-    fn call(&self, call: Call, file: &[u8], out: &mut [u8], tally: &mut Tally) -> Told {
-        match call {
-            Call::Graph => self.engine.answer_graph(file, out, tally),
-            Call::Plan => self.engine.plan(file, out, tally),
-            Call::Sheet => self.engine.sheet(file, out, tally),
-        }
+        Ok((told.number, answer))
     }
 
     /// A buffer that is large enough, and at times one that is not.
@@ -285,6 +356,16 @@ impl<'a> Judge<'a> {
         let room = if self.random.chance(80) { LEAST_ROOM } else { LEAST_ROOM + self.random.below(3_000) };
         let short = if self.random.chance(50) { LEAST_ROOM - 1 } else { self.random.below(LEAST_ROOM) };
         (room, self.random.chance(5).then_some(short))
+    }
+
+    /// A number of searches: few, any that is granted, or at times one that is not.
+    fn some_most(&mut self) -> u32 {
+        match self.random.below(20) {
+            0 => *self.random.choose(&OVER),
+            1 => MOST_SEARCHES,
+            2..=6 => self.random.below(MOST_SEARCHES as usize + 1) as u32,
+            _ => self.random.below(4) as u32,
+        }
     }
 
     /// Counts of any size, at times at their largest value or one below.
@@ -296,6 +377,14 @@ impl<'a> Judge<'a> {
             _ => self.random.number() as u32,
         };
         Tally { paths: count(), barriers: count(), stocks: count(), refusals: count() }
+    }
+}
+
+/// The number of searches that an answer tells; a refusal, and another call's answer, tells none.
+fn searches_in(call: Call, answer: &[u8]) -> u64 {
+    match call {
+        Call::Budget(_) => number(Text::of(answer).header(), 4, 2) as u64,
+        _ => 0,
     }
 }
 

@@ -2,12 +2,15 @@
 //!   graphs, stocks          document 01's
 //!   isolated_stocks         stocks with cameras that have no fit (document 02, L2), each byte of their sheets written out
 //!   isolated_examples       those of them that examples/ has
+//!   budgets, large_budgets  these stocks and others with budgets (document 02, L4), each header written out; those that cost more
+//!   S5_BUDGETS              the answers to S5 that examples/ has, each byte written out
 //!   graph_files, stock_files    their files
 //!   graph, stock            a graph with source 0, a stock, from their numbers
 //!   G3, G4, G5, S7          arcs and fits that other cases are made of
 
 use crate::frames::{barrier_file, path_file, plan_file, sheet_file, Pair};
 use crate::graph_trial::Graph;
+use crate::shapes::row;
 use crate::stock_trial::Stock;
 
 pub struct KnownGraph {
@@ -165,6 +168,96 @@ fn largest_stocks() -> Vec<KnownStock> {
         known("fit 0-126 of 127", stock(127, &[(0, 126)], &[]), ends.as_bytes(), &[&[(0, 126)]]),
     ]
 }
+
+// ---- budgets
+
+/// A stock, and for some numbers of searches the header of the answer.
+pub struct KnownBudget {
+    pub name: &'static str,
+    pub stock: Stock,
+    pub headers: &'static [(u32, &'static str)],
+}
+
+pub const S5_BUDGETS: [(u32, &[u8]); 4] = [
+    (0, b"61010001\n520102\n6F0001\n"),
+    (1, b"61020100\n520001\n520203\n6F0002\n"),
+    (2, b"61020200\n520001\n520203\n6F0002\n"),
+    (64, b"61020200\n520001\n520203\n6F0002\n"),
+];
+
+pub fn budgets() -> Vec<KnownBudget> {
+    let unlit = |stock: Stock| Stock { lit: Vec::new(), ..stock };
+    let known = [stocks(), isolated_examples(), few_cameras(), four_marks()];
+    let more = [
+        ("S7 with 0-2 and 3-5 lit", stock(6, &S7, &[(0, 2), (3, 5)])),
+        ("S7 with every camera lit", stock(6, &S7, &[(0, 1), (2, 3), (4, 5)])),
+        ("126 cameras in a row, none lit", unlit(row(126, 126).0)),
+        ("127 cameras in a row, none lit", unlit(row(127, 127).0)),
+        ("126 cameras in a row, all lit but the first and the last", row(126, 126).0),
+    ];
+    known.into_iter().flatten().map(|known| (known.name, known.stock)).chain(more).map(with_headers).collect()
+}
+
+/// 127 cameras of which most are left over.
+pub fn large_budgets() -> Vec<KnownBudget> {
+    let star: Vec<Pair> = (1..127).map(|camera| (0, camera)).collect();
+    let more = [("127 cameras, one of which fits the others", stock(127, &star, &[]))];
+    largest_stocks().into_iter().map(|known| (known.name, known.stock)).chain(more).map(with_headers).collect()
+}
+
+fn with_headers((name, stock): (&'static str, Stock)) -> KnownBudget {
+    KnownBudget { name, stock, headers: headers(name) }
+}
+
+/// For each number of searches: 61, pairs, searches, and lanes at most still missing.
+fn headers(name: &str) -> &'static [(u32, &'static str)] {
+    match name {
+        "S1" => &[(0, "61000000"), (1, "61000100"), (2, "61000100"), (64, "61000100")],
+        "S2" => &[(0, "61000001"), (1, "61010100"), (2, "61010200"), (3, "61010200"), (64, "61010200")],
+        "S3" => &[(0, "61000001"), (1, "61010100"), (2, "61010200"), (64, "61010200")],
+        "S4" => &[(0, "61000002"), (1, "61010101"), (2, "61010200"), (3, "61010200"), (64, "61010200")],
+        "S5" => &[(0, "61010001"), (1, "61020100"), (2, "61020200"), (3, "61020200"), (64, "61020200")],
+        "S6" => &[(0, "61000002"), (1, "61010101"), (2, "61020200"), (3, "61020300"), (4, "61020300"), (64, "61020300")],
+        "S7" => &[(0, "61000003"), (1, "61010102"), (2, "61020201"), (3, "61030300"), (4, "61030400"), (64, "61030400")],
+        "isolated_alone" => &[(0, "61000000"), (1, "61000100"), (64, "61000100")],
+        "isolated_third" => &[(0, "61000001"), (1, "61010100"), (2, "61010200"), (64, "61010200")],
+        "four_marks" => &[(0, "61010003"), (1, "61020102"), (2, "61020200"), (64, "61020200")],
+        "two cameras, and no fit" => &[(0, "61000001"), (1, "61000100"), (2, "61000100"), (64, "61000100")],
+        "fit 0-2 of three" => &[(0, "61000001"), (1, "61010100"), (2, "61010200")],
+        "fit 1-2 of three, lit" => &[(0, "61010000"), (1, "61010100"), (2, "61010100"), (64, "61010100")],
+        "S3 with 0-2 lit, and one camera more" => &[(0, "61010001"), (1, "61010100"), (2, "61010100"), (64, "61010100")],
+        "S4 without its last fit" => &[(0, "61000002"), (1, "61010101"), (2, "61010200"), (64, "61010200")],
+        "S5 around two cameras more" => &[(0, "61010002"), (1, "61020101"), (2, "61020200"), (64, "61020200")],
+        "S6 around two cameras more" => &[(0, "61000003"), (1, "61010102"), (2, "61020201"), (3, "61020300"), (4, "61020300")],
+        "all four marks, one pair gained" => &[(0, "61010003"), (1, "61020102"), (2, "61020200"), (64, "61020200")],
+        "all four marks, a lit pair swapped for two" => &[(0, "61020003"), (1, "61030102"), (2, "61030200"), (3, "61030200")],
+        "127 cameras, and no fit" => &[(0, "6100003F"), (1, "61000100"), (64, "61000100")],
+        "fit 0-1 of 127" | "fit 125-126 of 127" | "fit 0-126 of 127" => &[(0, "6100003F"), (1, "6101013E"), (2, "61010200")],
+        "fit 63-64 of 127, lit" => &[(0, "6101003E"), (1, "61010100"), (64, "61010100")],
+        "S7 with 0-2 and 3-5 lit" => &[(0, "61020001"), (1, "61030100"), (2, "61030200"), (64, "61030200")],
+        "S7 with every camera lit" => &[(0, "61030000"), (1, "61030100"), (2, "61030100"), (64, "61030100")],
+        "126 cameras in a row, none lit" => &IN_A_ROW,
+        "127 cameras in a row, none lit" => &IN_A_ROW,
+        "126 cameras in a row, all lit but the first and the last" => {
+            &[(0, "613E0001"), (1, "613F0100"), (2, "613F0200"), (63, "613F0200"), (64, "613F0200")]
+        }
+        "127 cameras, one of which fits the others" => &[(0, "6100003F"), (1, "6101013E"), (2, "61010200"), (64, "61010200")],
+        _ => panic!("no budget is known for {name}"),
+    }
+}
+
+/// 63 pairs to be gained; of 127 cameras one is always left over.
+const IN_A_ROW: [(u32, &str); 9] = [
+    (0, "6100003F"),
+    (1, "6101013E"),
+    (9, "61090936"),
+    (10, "610A0A35"),
+    (16, "6110102F"),
+    (31, "611F1F20"),
+    (62, "613E3E01"),
+    (63, "613F3F00"),
+    (64, "613F4000"),
+];
 
 pub fn graph_files() -> Vec<Vec<u8>> {
     graphs().iter().map(|known| known.graph.file()).collect()

@@ -12,13 +12,14 @@
 //!   wrong, slips     engines with one part wrong
 //!   wrong_line_ends  engines that take line ends wrongly
 //!   wrong_isolated   engines that mark cameras without a fit wrongly
+//!   wrong_budgets    engines that stop wrongly after so many searches
 //!   wrong_look_ups   engines that look up a pair wrongly, or ask wrongly whether lit pairs are fits
 //!   judge            a call judged whole: result, buffer, tally
 //!   seen             what was tried, counted
 //!   generate         random graphs and stocks
 //!   fit_lists        lists of fits, and pairs to look up in them
 //!   faults           files that fail chosen questions
-//!   known            document 01's known graphs and stocks, and stocks with isolated cameras
+//!   known            document 01's known graphs and stocks, stocks with isolated cameras, and budgets
 //!   cases            document 01's examples, edges and traps
 //!   exhaustive       every graph, stock and certificate of a small size
 //!   trials           random graphs, stocks, certificates and faults
@@ -30,6 +31,7 @@
 //!   isolated_trials  cameras without a fit: known sheets, sheets compared, every set of them
 //!   look_up_trials   a pair looked up among fits: whether it is found, and how many are looked at
 //!   lit_pair_trials  lit pairs that are fits, and such as are none
+//!   budget_trials    the call that stops after so many searches
 //!   prints           what the programs print
 //!   programs         the programs, run and judged
 //!   stand_in         this binary in a program's place
@@ -42,6 +44,7 @@
 
 pub mod arc_matching;
 pub mod blossom;
+pub mod budget_trials;
 pub mod cases;
 pub mod damage;
 pub mod engine;
@@ -77,6 +80,7 @@ pub mod summary;
 pub mod trials;
 pub mod truth;
 pub mod wrong;
+pub mod wrong_budgets;
 pub mod wrong_isolated;
 pub mod wrong_line_ends;
 pub mod wrong_look_ups;

@@ -15,7 +15,7 @@ const NOT_RUN: u8 = 2;
 /// Prints what a program would; the exit status that it would end with.
 fn stand_in_for(engine: &dyn Engine, program: &str, options: &Options) -> Result<ExitCode, String> {
     let manner = wrong_programs::manner(program, options.wrongly.as_deref())?;
-    let written = stand_in::printed(engine, program, &manner).and_then(|text| std::io::stdout().write_all(&text));
+    let written = stand_in::printed(engine, program, &options.words, &manner).and_then(|text| std::io::stdout().write_all(&text));
     written.map_err(|error| error.to_string())?;
     Ok(ExitCode::from(manner.status))
 }

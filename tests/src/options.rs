@@ -4,6 +4,8 @@
 //!   read        the options of this process
 
 use crate::random::Random;
+use std::ffi::OsString;
+use std::os::unix::ffi::OsStringExt;
 use std::path::PathBuf;
 use std::time::{SystemTime, UNIX_EPOCH};
 
@@ -12,11 +14,12 @@ pub const USAGE: &str = "outside-tests [--seed N] [--files N] [--long] [--only T
   --files N           about that many random files with each seed
   --long              twenty times as many
   --only TEXT         only what has TEXT in its name; a failure where nothing has
-  --programs FOLDER   the programs lanes_graph, lanes_plan, lanes_sheet and lanes_check of a folder; without it this binary stands in
+  --programs FOLDER   the programs lanes_graph, lanes_plan, lanes_sheet, lanes_budget and lanes_check of a folder; without it this
+                      binary stands in
   --valgrind          the programs under valgrind, on document 01's examples alone
   --proved            a failure at once where the engine is not the linked library, or where no folder of programs is given
-outside-tests --as NAME [--wrongly WHAT]
-  stands in for a program, or for one of which something is wrong, as the lines 'wrong program' have it";
+outside-tests --as NAME [--wrongly WHAT] [-- WORD ..]
+  stands in for a program, or for one of which something is wrong, as the lines 'wrong program' have it; the program's own words last";
 
 pub struct Options {
     /// the first for all that is tried, the others for what is drawn
@@ -28,6 +31,8 @@ pub struct Options {
     pub proved: bool,
     pub stand_in: Option<String>,
     pub wrongly: Option<String>,
+    /// those of the program that this binary stands in for
+    pub words: Vec<Vec<u8>>,
 }
 
 /// A seed other than 1, by the clock and the number of this process; short enough to be typed.
@@ -35,6 +40,11 @@ fn fresh_seed() -> u64 {
     let clock = SystemTime::now().duration_since(UNIX_EPOCH).map_or(0, |since| since.as_nanos() as u64);
     let mixed = Random::new(clock ^ (u64::from(std::process::id()) << 32)).number();
     2 + mixed % 999_999_998
+}
+
+/// A word of this binary's own.
+fn text(word: OsString) -> String {
+    word.to_string_lossy().into_owned()
 }
 
 pub fn read() -> Result<Options, String> {
@@ -47,10 +57,11 @@ pub fn read() -> Result<Options, String> {
         proved: false,
         stand_in: None,
         wrongly: None,
+        words: Vec::new(),
     };
-    let mut words = std::env::args().skip(1);
-    while let Some(word) = words.next() {
-        let mut value = || words.next().ok_or(format!("{word} wants a value\n{USAGE}"));
+    let mut words = std::env::args_os().skip(1);
+    while let Some(word) = words.next().map(text) {
+        let mut value = || words.next().map(text).ok_or(format!("{word} wants a value\n{USAGE}"));
         let number = |text: String| text.parse::<u64>().map_err(|_| format!("{text} is no number\n{USAGE}"));
         match word.as_str() {
             "--seed" => options.seeds = vec![number(value()?)?],
@@ -62,6 +73,7 @@ pub fn read() -> Result<Options, String> {
             "--proved" => options.proved = true,
             "--as" => options.stand_in = Some(value()?),
             "--wrongly" => options.wrongly = Some(value()?),
+            "--" => options.words = words.by_ref().map(OsString::into_vec).collect(),
             _ => return Err(format!("what is {word}?\n{USAGE}")),
         }
     }

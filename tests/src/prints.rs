@@ -1,19 +1,32 @@
-//! What the programs print (document 01, "Programs").
+//! What the programs print (document 01, "Programs"; document 02, L4).
 //!   GRAPH_PROGRAM ..               the names of the programs
+//!   program_of                     the one that prints what a call answers
 //!   refusal_line, verdict_line     7E and a number; 7A01 for yes, 7A00 for no
 //!   Print, print_of                which program printed, the kind that its first line opens with, and a number: that of the line where
 //!                                  it is the only one, otherwise the number of body lines
 //!   every_print                    all that the programs can come to: each refusal, each verdict, each size of answer
 
 use crate::engine::Verdict;
-use crate::frames::{kind_of, number, Text, BARRIER, PATH, PLAN, SHEET};
+use crate::frames::{kind_of, number, Text, BARRIER, BUDGET, PATH, PLAN, SHEET};
 use crate::graph_trial::{CERTIFICATE_QUESTIONS, GRAPH_QUESTIONS};
+use crate::judge::Call;
 use crate::stock_trial::STOCK_QUESTIONS;
+use crate::truth::OVER_BUDGET;
 
 pub const GRAPH_PROGRAM: &str = "lanes_graph";
 pub const PLAN_PROGRAM: &str = "lanes_plan";
 pub const SHEET_PROGRAM: &str = "lanes_sheet";
+pub const BUDGET_PROGRAM: &str = "lanes_budget";
 pub const CHECK_PROGRAM: &str = "lanes_check";
+
+pub fn program_of(call: Call) -> &'static str {
+    match call {
+        Call::Graph => GRAPH_PROGRAM,
+        Call::Plan => PLAN_PROGRAM,
+        Call::Sheet => SHEET_PROGRAM,
+        Call::Budget(_) => BUDGET_PROGRAM,
+    }
+}
 
 const REFUSAL: u8 = 0x7E;
 const VERDICT: u8 = 0x7A;
@@ -41,7 +54,7 @@ pub fn print_of(program: &'static str, printed: &[u8]) -> Print {
 pub fn every_print() -> Vec<Print> {
     let refusals = |questions: &[u8], added: usize| questions.iter().map(|number| *number as usize + added).collect();
     let of_stock: Vec<usize> = refusals(&STOCK_QUESTIONS, 0);
-    let numbers: [(&str, u8, Vec<usize>); 10] = [
+    let numbers: [(&str, u8, Vec<usize>); 12] = [
         (GRAPH_PROGRAM, PATH.header, (1..=255).collect()),
         (GRAPH_PROGRAM, BARRIER.header, (1..=128).map(|pairs| 2 * pairs).collect()),
         (GRAPH_PROGRAM, REFUSAL, refusals(&GRAPH_QUESTIONS, 0)),
@@ -49,6 +62,8 @@ pub fn every_print() -> Vec<Print> {
         (PLAN_PROGRAM, REFUSAL, of_stock.clone()),
         (SHEET_PROGRAM, SHEET.header, (0..=127).collect()),
         (SHEET_PROGRAM, REFUSAL, of_stock),
+        (BUDGET_PROGRAM, BUDGET.header, (0..=63).collect()),
+        (BUDGET_PROGRAM, REFUSAL, refusals(&[&[OVER_BUDGET], &STOCK_QUESTIONS[..]].concat(), 0)),
         (CHECK_PROGRAM, VERDICT, vec![0, 1]),
         (CHECK_PROGRAM, REFUSAL, refusals(&GRAPH_QUESTIONS, 0)),
         (CHECK_PROGRAM, REFUSAL, refusals(&CERTIFICATE_QUESTIONS, 40)),

@@ -2,6 +2,8 @@
 //!   examples            document 01's known graphs and stocks, and its certificates
 //!   isolated_cameras    the known stocks with isolated cameras, and random ones, with all line ends
 //!   unopened_files      a file that can't be opened counts as empty
+//!   budgets             S5 and others with words for every number of searches from 0 to 64
+//!   other_words         words that are no such number, beside good stocks and faulty ones
 //!   refusals            every question as the first failing one, of every file of every program, with all line ends
 //!   line_ends           document 01's examples with all line ends, and files with ends that are none
 //!   full_files          as many lines with CR LF as 60,000 bytes hold, and one byte more
@@ -11,23 +13,24 @@
 //!   pieces              standard input that comes in pieces, also cut between CR and LF
 //!   middling_files      random graphs and stocks, with all line ends
 //!   graph_sizes         paths of every number of arcs and barriers on every number of mate pairs, each checked as it is and spoiled
-//!   stock_sizes         sheets of every number of cameras, plans of every number of pairs
+//!   stock_sizes         sheets of every number of cameras, plans and answers to budgets of every number of pairs
 //! The longest come first, so that a program that cuts is soon found.
 
 use crate::cases::{graph_of_arcs, one_of};
 use crate::damage::{BYTES, DIGITS};
 use crate::engine::Verdict;
 use crate::faults::{failing, graph_for_certificates, questions, Kind, KINDS};
-use crate::frames::{file, path_file, plan_file, sheet_file, stock_file, CR, GREATEST_FILE};
+use crate::frames::{budget_file, file, path_file, plan_file, sheet_file, stock_file, Text, CR, GREATEST_FILE};
 use crate::generate::{all_fits, middling_graph, middling_stock, nearly_largest_lit, some_fits, stock_of, stock_with_isolated};
 use crate::judge::{shown, Trial};
-use crate::known::{graph, graphs, isolated_stocks, stocks, G4, G5};
+use crate::known::{budgets as known_budgets, graph, graphs, isolated_stocks, stocks, KnownBudget, G4, G5, S5_BUDGETS};
 use crate::large::dense_graph;
 use crate::line_ends::{all_ways, cr_lf, replaced, to_length, CR_LF};
 use crate::prints::{refusal_line, verdict_line};
 use crate::programs::{Given, Programs};
 use crate::random::Random;
 use crate::shapes::{of_every_size, rows_of_every_size, spoiled};
+use crate::truth::OVER_BUDGET;
 
 /// A print that is plain beforehand.
 fn owed(printed: &[u8], right: Vec<u8>) -> Trial {
@@ -43,7 +46,7 @@ pub fn examples(programs: &Programs, _: &mut Random) -> Trial {
         }
     }
     for known in stocks() {
-        let [plan, sheet] = programs.stock(&known.stock.file())?;
+        let [plan, sheet, _] = programs.stock(&known.stock.file())?;
         one_of(known.name, &plan, &known.plans)?;
         one_of(known.name, &sheet, &[known.sheet])?;
     }
@@ -55,7 +58,7 @@ pub fn examples(programs: &Programs, _: &mut Random) -> Trial {
 pub fn isolated_cameras(programs: &Programs, random: &mut Random) -> Trial {
     for known in isolated_stocks() {
         for file in all_ways(random, &known.stock.file()) {
-            let [plan, sheet] = programs.stock(&file)?;
+            let [plan, sheet, _] = programs.stock(&file)?;
             one_of(known.name, &plan, &known.plans)?;
             one_of(known.name, &sheet, std::slice::from_ref(&known.sheet))?;
         }
@@ -75,6 +78,118 @@ pub fn unopened_files(programs: &Programs, _: &mut Random) -> Trial {
         owed(&programs.check_given(graph, missing)?, refusal_line(44))?;
     }
     owed(&programs.check_given(graph, certificate)?, verdict_line(Verdict::Yes))
+}
+
+// ---- budgets
+
+pub fn budgets(programs: &Programs, _: &mut Random) -> Trial {
+    let s5 = stocks()[4].stock.file();
+    for (most, answer) in S5_BUDGETS {
+        for zeros in ["", "0", "00", "0000000"] {
+            owed(&programs.budget(&[format!("{zeros}{most}").as_bytes()], &s5)?, answer.to_vec())?;
+        }
+    }
+    for KnownBudget { name, stock, headers } in known_budgets() {
+        for (most, header) in headers {
+            let answer = programs.budget(&[most.to_string().as_bytes()], &stock.file())?;
+            one_of(name, Text::of(&answer).header(), &[header.as_bytes().to_vec()])?;
+        }
+    }
+    let s7 = stocks()[6].stock.file();
+    (0..=64).try_for_each(|most| programs.budget(&[most.to_string().as_bytes()], &s7).map(drop))
+}
+
+/// No number, or more than one; what is no digit; too many digits; and numbers above 64.
+const OTHER_WORDS: [&[&str]; 66] = [
+    &[],
+    &[""],
+    &["5", "5"],
+    &["5", ""],
+    &["", "5"],
+    &["5", "x"],
+    &["64", "64", "64"],
+    &["+5"],
+    &["-1"],
+    &["-0"],
+    &["+0"],
+    &["-"],
+    &["--"],
+    &["--help"],
+    &[" 5"],
+    &["5 "],
+    &[" "],
+    &["5\n"],
+    &["\t5"],
+    &["5\r"],
+    &["1 2"],
+    &["0x10"],
+    &["0X5"],
+    &["0b1"],
+    &["0o5"],
+    &["6.0"],
+    &["6,0"],
+    &["1_0"],
+    &["5."],
+    &["1e1"],
+    &["A"],
+    &["a"],
+    &["F"],
+    &["1F"],
+    &["5x"],
+    &["x5"],
+    &["/"],
+    &[":"],
+    &["5:"],
+    &["\u{96B}"],
+    &["1\u{96B}"],
+    &["\u{FF15}"],
+    &["\u{B2}"],
+    &["five"],
+    &["0000000000"],
+    &["0000000005"],
+    &["0000000064"],
+    &["00000000000000000005"],
+    &["1234567890"],
+    &["4294967296"],
+    &["4294967360"],
+    &["18446744073709551616"],
+    &["65"],
+    &["99"],
+    &["065"],
+    &["000000065"],
+    &["100"],
+    &["127"],
+    &["128"],
+    &["255"],
+    &["256"],
+    &["320"],
+    &["640"],
+    &["65536"],
+    &["65600"],
+    &["999999999"],
+];
+
+pub fn other_words(programs: &Programs, random: &mut Random) -> Trial {
+    let s5 = stocks()[4].stock.file();
+    let refused = |words: &[&[u8]], file: &[u8]| owed(&programs.budget(words, file)?, refusal_line(OVER_BUDGET));
+    for words in OTHER_WORDS {
+        let words: Vec<&[u8]> = words.iter().map(|word| word.as_bytes()).collect();
+        refused(&words, &s5)?;
+    }
+    // bytes that are no text
+    for word in [&b"\xFF"[..], b"5\xFF", b"\x805", b"\xB5"] {
+        refused(&[word], &s5)?;
+    }
+    // before every question of the file
+    refused(&[b"65"], b"")?;
+    for question in questions(Kind::Stock) {
+        let file = failing(random, Kind::Stock, &[*question])?;
+        let some = random.choose(&OTHER_WORDS);
+        let some: Vec<&[u8]> = some.iter().map(|word| word.as_bytes()).collect();
+        [&[&b"65"[..]][..], &[], &some].into_iter().try_for_each(|words| refused(words, &file))?;
+        owed(&programs.budget(&[b"0"], &file)?, refusal_line(*question))?;
+    }
+    Ok(())
 }
 
 pub fn refusals(programs: &Programs, random: &mut Random) -> Trial {
@@ -107,7 +222,7 @@ pub fn line_ends(programs: &Programs, random: &mut Random) -> Trial {
     }
     for known in stocks() {
         for file in all_ways(random, &known.stock.file()) {
-            let [plan, sheet] = programs.stock(&file)?;
+            let [plan, sheet, _] = programs.stock(&file)?;
             one_of(known.name, &plan, &known.plans)?;
             one_of(known.name, &sheet, std::slice::from_ref(&known.sheet))?;
         }
@@ -136,18 +251,20 @@ fn no_line_ends(programs: &Programs) -> Trial {
 }
 
 /// Files handed to every program, the check's graph and its certificate each beside one that is right. What was printed, in this order.
-fn everywhere(programs: &Programs, graph: &[u8], stock: &[u8], certificate: &[u8]) -> Result<[Vec<u8>; 5], String> {
+fn everywhere(programs: &Programs, graph: &[u8], stock: &[u8], certificate: &[u8]) -> Result<[Vec<u8>; 6], String> {
     let [right, _, answer] = known_files();
-    let [plan, sheet] = programs.stock(stock)?;
-    Ok([programs.graph(graph)?, plan, sheet, programs.check(graph, &answer)?, programs.check(&right, certificate)?])
+    let [plan, sheet, budget] = programs.stock(stock)?;
+    let [of_graph, of_certificate] = [programs.check(graph, &answer)?, programs.check(&right, certificate)?];
+    Ok([programs.graph(graph)?, plan, sheet, budget, of_graph, of_certificate])
 }
 
 /// The same where all are refused with one number.
 fn refused_everywhere(programs: &Programs, files: [&[u8]; 3], number: u8) -> Trial {
     let [graph, stock, certificate] = files;
     let printed = everywhere(programs, graph, stock, certificate)?;
-    printed[..4].iter().try_for_each(|line| owed(line, refusal_line(number)))?;
-    owed(&printed[4], refusal_line(number + 40))
+    let [of_files @ .., of_certificate] = printed;
+    of_files.iter().try_for_each(|line| owed(line, refusal_line(number)))?;
+    owed(&of_certificate, refusal_line(number + 40))
 }
 
 /// A graph, a stock and a certificate of that graph.
@@ -292,8 +409,10 @@ pub fn graph_sizes(programs: &Programs, _: &mut Random) -> Trial {
 pub fn stock_sizes(programs: &Programs, _: &mut Random) -> Trial {
     rows_of_every_size().try_for_each(|(stock, standing)| {
         let file = stock.file();
-        let [plan, sheet] = programs.stock(&file)?;
+        let [plan, sheet, budget] = programs.stock(&file)?;
+        let pairs = vec![(0, 0); standing.greatest];
+        known_to_be(budget.len() == budget_file(&pairs, 0, 0).len(), &budget, &file)?;
         known_to_be(sheet == sheet_file(standing.greatest, &standing.marks), &sheet, &file)?;
-        known_to_be(plan.len() == plan_file(&vec![(0, 0); standing.greatest]).len(), &plan, &file)
+        known_to_be(plan.len() == plan_file(&pairs).len(), &plan, &file)
     })
 }

@@ -1,25 +1,26 @@
-//! The four programs, run as a technician runs them (document 01, "Programs"), each print judged whole.
+//! The five programs, run as a technician runs them (document 01, "Programs"; document 02, L4), each print judged whole.
 //!   Place               where they are: in a folder, or this binary standing in for them, rightly or wrongly
 //!   Programs            a place, and what starts them, as valgrind
-//!   graph, stock        a file handed in on standard input; what is printed, for a stock by both its programs
+//!   graph, stock        a file handed in on standard input; what is printed, for a stock by its three programs, with 64 searches
+//!   budget              a stock, and words for the number of searches; what is printed
 //!   graph_in_pieces, stock_in_pieces    the same, each piece after the one before was read
 //!   check, check_given  graph.hex and cert.hex, each a file, nothing, or a link that leads nowhere (Given)
 //!   runs, never_printed     how often programs were run; what of all that they can come to was not met
 
 use crate::graph_trial;
-use crate::judge::{shown, Trial};
-use crate::prints::{
-    every_print, print_of, refusal_line, verdict_line, Print, CHECK_PROGRAM, GRAPH_PROGRAM, PLAN_PROGRAM, SHEET_PROGRAM,
-};
+use crate::judge::{shown, Call, Trial};
+use crate::prints::{every_print, print_of, program_of, refusal_line, verdict_line, Print, CHECK_PROGRAM};
 use crate::reference::Parts;
 use crate::stand_in::{answered, WRONG_STATUS};
-use crate::truth::{graph_owed, graph_truth, plan_owed, sheet_owed, stock_truth, Owed};
+use crate::truth::{budget_owed, graph_owed, graph_truth, plan_owed, sheet_owed, stock_truth, Owed};
 use std::cell::{Cell, RefCell};
 use std::collections::BTreeSet;
+use std::ffi::{OsStr, OsString};
 use std::fs;
 use std::io::Write;
 use std::os::fd::AsRawFd;
 use std::os::raw::{c_int, c_ulong};
+use std::os::unix::ffi::OsStrExt;
 use std::os::unix::fs::symlink;
 use std::path::PathBuf;
 use std::process::{Child, ChildStdin, Command, Stdio};
@@ -106,20 +107,32 @@ impl Programs {
         self.graph_in_pieces(&[file])
     }
 
-    /// Plan and sheet.
-    pub fn stock(&self, file: &[u8]) -> Result<[Vec<u8>; 2], String> {
+    /// Plan, sheet, and what 64 searches come to.
+    pub fn stock(&self, file: &[u8]) -> Result<[Vec<u8>; 3], String> {
         self.stock_in_pieces(&[file])
+    }
+
+    pub fn budget(&self, words: &[&[u8]], file: &[u8]) -> Printed {
+        self.budget_in_pieces(words, &[file])
     }
 
     pub fn graph_in_pieces(&self, pieces: &[&[u8]]) -> Printed {
         let file = pieces.concat();
-        self.answer(GRAPH_PROGRAM, pieces, || graph_truth(&file), graph_owed)
+        self.answer(Call::Graph, &[], pieces, || graph_truth(&file), graph_owed)
     }
 
-    pub fn stock_in_pieces(&self, pieces: &[&[u8]]) -> Result<[Vec<u8>; 2], String> {
+    pub fn stock_in_pieces(&self, pieces: &[&[u8]]) -> Result<[Vec<u8>; 3], String> {
         let file = pieces.concat();
         let truth = || stock_truth(&file);
-        Ok([self.answer(PLAN_PROGRAM, pieces, truth, plan_owed)?, self.answer(SHEET_PROGRAM, pieces, truth, sheet_owed)?])
+        let plan = self.answer(Call::Plan, &[], pieces, truth, plan_owed)?;
+        let sheet = self.answer(Call::Sheet, &[], pieces, truth, sheet_owed)?;
+        Ok([plan, sheet, self.budget_in_pieces(&[b"64"], pieces)?])
+    }
+
+    fn budget_in_pieces(&self, words: &[&[u8]], pieces: &[&[u8]]) -> Printed {
+        let file = pieces.concat();
+        let most = granted_by(words);
+        self.answer(Call::Budget(most), words, pieces, || stock_truth(&file), |truth| budget_owed(truth, most))
     }
 
     /// Two files that are there.
@@ -134,7 +147,7 @@ impl Programs {
         if !self.is_run(CHECK_PROGRAM) {
             return Ok(owed);
         }
-        let printed = self.printed(CHECK_PROGRAM, &[])?;
+        let printed = self.printed(CHECK_PROGRAM, &[], &[])?;
         if printed == owed {
             return Ok(printed);
         }
@@ -155,11 +168,20 @@ impl Programs {
         }
     }
 
-    fn answer<T>(&self, name: &'static str, pieces: &[&[u8]], truth: impl Fn() -> T, owed: fn(&T) -> Owed) -> Printed {
+    /// What the program of a call prints, given words and standard input.
+    fn answer<T>(
+        &self,
+        call: Call,
+        words: &[&[u8]],
+        pieces: &[&[u8]],
+        truth: impl Fn() -> T,
+        owed: impl Fn(&T) -> Owed,
+    ) -> Printed {
+        let name = program_of(call);
         if !self.is_run(name) {
-            return Ok(answered(&Parts::right(), name, &pieces.concat()).unwrap_or_else(refusal_line));
+            return Ok(answered(&Parts::right(), call, &pieces.concat()).unwrap_or_else(refusal_line));
         }
-        let printed = self.printed(name, pieces)?;
+        let printed = self.printed(name, words, pieces)?;
         let truth = truth();
         let owed = owed(&truth);
         let right = if owed.number == 0 { (owed.is_right)(&printed) } else { printed == refusal_line(owed.number) };
@@ -167,13 +189,16 @@ impl Programs {
             return Ok(printed);
         }
         let owed = if owed.number == 0 { "an answer".to_string() } else { format!("refusal {}", owed.number) };
-        Err(format!("{name} prints\n{}where {owed} is owed, given\n{}", shown(&printed), shown(&pieces.concat())))
+        let words: Vec<String> = words.iter().map(|word| format!(" '{}'", String::from_utf8_lossy(word))).collect();
+        let started = format!("{name}{}", words.concat());
+        Err(format!("{started} prints\n{}where {owed} is owed, given\n{}", shown(&printed), shown(&pieces.concat())))
     }
 
-    /// What a program prints, of what it is given on standard input.
-    fn printed(&self, name: &'static str, pieces: &[&[u8]]) -> Printed {
-        let words = self.words(name)?;
-        let failed = |error: std::io::Error| format!("{NOT_RUN}{}: {error}", words.join(" "));
+    /// What a program prints, of its own words and of what it is given on standard input.
+    fn printed(&self, name: &'static str, own: &[&[u8]], pieces: &[&[u8]]) -> Printed {
+        let words = self.words(name, own)?;
+        let told = words.iter().map(|word| word.to_string_lossy()).collect::<Vec<_>>().join(" ");
+        let failed = |error: std::io::Error| format!("{NOT_RUN}{told}: {error}");
         let mut command = Command::new(&words[0]);
         command.args(&words[1..]).current_dir(&self.work).stdin(Stdio::piped()).stdout(Stdio::piped());
         let mut running = command.spawn().map_err(failed)?;
@@ -183,7 +208,7 @@ impl Programs {
         if !ended.status.success() {
             let stood_in = !matches!(self.place, Place::Folder(_)) && ended.status.code() != Some(WRONG_STATUS.into());
             let not_run = if stood_in { NOT_RUN } else { "" };
-            return Err(format!("{not_run}{} ended with {}, given\n{}", words.join(" "), ended.status, shown(&pieces.concat())));
+            return Err(format!("{not_run}{told} ended with {}, given\n{}", ended.status, shown(&pieces.concat())));
         }
         self.met.borrow_mut().insert(print_of(name, &ended.stdout));
         Ok(ended.stdout)
@@ -193,18 +218,32 @@ impl Programs {
         !matches!(self.place, Place::HereWrongly { program, .. } if program != name)
     }
 
-    fn words(&self, name: &str) -> Result<Vec<String>, String> {
-        let mut words = self.starter.clone();
+    /// What starts a program, and its own words.
+    fn words(&self, name: &str, own: &[&[u8]]) -> Result<Vec<OsString>, String> {
+        let mut words: Vec<OsString> = self.starter.iter().map(OsString::from).collect();
         if let Place::Folder(folder) = &self.place {
-            words.push(folder.join(name).display().to_string());
-            return Ok(words);
+            words.push(folder.join(name).into());
+        } else {
+            words.push(std::env::current_exe().map_err(|error| error.to_string())?.into());
+            words.extend(["--as", name].map(OsString::from));
+            if let Place::HereWrongly { what, .. } = self.place {
+                words.extend(["--wrongly", what].map(OsString::from));
+            }
+            words.push("--".into());
         }
-        let own = std::env::current_exe().map_err(|error| error.to_string())?;
-        words.extend([&own.display().to_string(), "--as", name].map(String::from));
-        if let Place::HereWrongly { what, .. } = self.place {
-            words.extend(["--wrongly", what].map(String::from));
-        }
+        words.extend(own.iter().map(|word| OsStr::from_bytes(word).to_owned()));
         Ok(words)
+    }
+}
+
+/// The number of searches that words grant: the one word, of one to nine digits. Other words count as a number that is not granted.
+fn granted_by(words: &[&[u8]]) -> u32 {
+    let digit = |byte: &u8| byte.is_ascii_digit().then(|| u32::from(byte - b'0'));
+    match words {
+        [word] if !word.is_empty() && word.len() <= 9 => {
+            word.iter().try_fold(0, |sum, byte| Some(10 * sum + digit(byte)?)).unwrap_or(u32::MAX)
+        }
+        _ => u32::MAX,
     }
 }
 

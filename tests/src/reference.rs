@@ -1,14 +1,15 @@
 //! An engine put together from the trial's parts and the matchings, to try the tests themselves: they must pass on it,
 //! and must fail on each engine that has one part replaced by a wrong one (wrong.rs).
 //!   GraphAnswer       a path or a barrier's classes
+//!   Reached           a pairing that some searches have reached, their number, and the lanes at most still missing
 //!   Parts             the engine as a record of its parts
 //!   Parts::right      each part as the documents say
-//!   answer .. look_up    those of them that wrong ones are made from
+//!   answer .. budget     those of them that wrong ones are made from
 
 use crate::arc_matching;
 use crate::blossom;
-use crate::engine::{Engine, Fit, Looked, Tally, Told, Verdict};
-use crate::frames::{barrier_file, path_file, plan_file, sheet_file, Pair};
+use crate::engine::{Engine, Fit, Looked, Searched, Tally, Told, Verdict};
+use crate::frames::{barrier_file, budget_file, path_file, plan_file, sheet_file, Pair};
 use crate::graph_trial::{self, canonical, Certificate, Graph};
 use crate::stock_trial::{self, Standing, Stock};
 
@@ -26,9 +27,18 @@ impl GraphAnswer {
     }
 }
 
+pub struct Reached {
+    pub pairs: Vec<Pair>,
+    pub searches: usize,
+    pub missing: usize,
+}
+
 /// What a file holds, or the number that refuses it.
 pub type Reader<T> = Box<dyn Fn(&[u8]) -> Result<T, u8>>;
 pub type LookUp = Box<dyn Fn(&[u8], &[u8], Fit) -> Looked>;
+pub type Search = Box<dyn Fn(&Stock, u32) -> Reached>;
+/// By the engine's other parts.
+pub type BudgetCall = Box<dyn Fn(&Parts, &[u8], u32, &mut [u8], &mut Tally) -> Searched>;
 pub type CertificateReader = Box<dyn Fn(&Graph, &[u8]) -> Result<Certificate, u8>>;
 
 pub struct Parts {
@@ -49,6 +59,11 @@ pub struct Parts {
     pub refuse: fn(u8, &mut [u8]) -> Told,
     /// first cameras, second cameras, and the pair sought; the stocks are read without it
     pub look_up: LookUp,
+    /// what a stock comes to within a number of searches
+    pub search: Search,
+    pub reached_file: fn(&Reached) -> Vec<u8>,
+    /// the call with a budget, whole
+    pub budget: BudgetCall,
 }
 
 impl Parts {
@@ -69,10 +84,13 @@ impl Parts {
             write,
             refuse: |number, _| Told { number, size: 0 },
             look_up: Box::new(look_up),
+            search: Box::new(search),
+            reached_file: |reached| budget_file(&reached.pairs, reached.searches, reached.missing),
+            budget: Box::new(budget),
         }
     }
 
-    fn refusal(&self, number: u8, out: &mut [u8], tally: &mut Tally) -> Told {
+    pub fn refusal(&self, number: u8, out: &mut [u8], tally: &mut Tally) -> Told {
         tally.refusals = (self.raise)(tally.refusals);
         (self.refuse)(number, out)
     }
@@ -87,7 +105,7 @@ impl Parts {
         room.map(|_| read)
     }
 
-    fn answer_stock(&self, file: &[u8], out: &mut [u8], tally: &mut Tally, text: impl Fn(&Stock) -> Vec<u8>) -> Told {
+    fn answer_stock(&self, file: &[u8], out: &mut [u8], tally: &mut Tally, text: impl FnOnce(&Stock) -> Vec<u8>) -> Told {
         match self.read(&self.read_stock, file, out) {
             Err(number) => self.refusal(number, out, tally),
             Ok(stock) => {
@@ -132,6 +150,34 @@ pub fn look_up(firsts: &[u8], seconds: &[u8], sought: Fit) -> Looked {
     Looked { found: false, looked }
 }
 
+/// Cameras are searched from in turn, until one is lit: that is a search. From one that was passed over no path leads later either.
+pub fn search(stock: &Stock, most: u32) -> Reached {
+    let lists = blossom::neighbours(stock.cameras, &stock.fits);
+    let mut partner = blossom::partners(stock.cameras, &stock.lit);
+    let mut roots = 0..stock.cameras;
+    let (mut searches, mut found) = (0, true);
+    while found && searches < most as usize {
+        searches += 1;
+        found = roots.any(|root| partner[root].is_none() && blossom::augment(&lists, &mut partner, root).is_ok());
+    }
+    let left_over = partner.iter().filter(|other| other.is_none()).count();
+    Reached { pairs: blossom::pairs(&partner), searches, missing: if found { left_over / 2 } else { 0 } }
+}
+
+/// Question 1, then 15, then the file's.
+pub fn budget(parts: &Parts, file: &[u8], most: u32, out: &mut [u8], tally: &mut Tally) -> Searched {
+    if out.len() >= parts.least_room && most > 64 {
+        return Searched { told: parts.refusal(15, out, tally), searches: 0 };
+    }
+    let mut searches = 0;
+    let told = parts.answer_stock(file, out, tally, |stock| {
+        let reached = (parts.search)(stock, most);
+        searches = reached.searches as u64;
+        (parts.reached_file)(&reached)
+    });
+    Searched { told, searches }
+}
+
 impl Engine for Parts {
     fn answer_graph(&self, file: &[u8], out: &mut [u8], tally: &mut Tally) -> Told {
         let graph = match self.read(&self.read_graph, file, out) {
@@ -155,6 +201,10 @@ impl Engine for Parts {
             let standing = (self.standing)(stock);
             sheet_file(standing.greatest, &standing.marks)
         })
+    }
+
+    fn budget(&self, file: &[u8], most: u32, out: &mut [u8], tally: &mut Tally) -> Searched {
+        (self.budget)(self, file, most, out, tally)
     }
 
     fn check(&self, graph: &[u8], certificate: &[u8]) -> Verdict {

@@ -3,18 +3,21 @@
 //!   Isolated    where a stock has cameras without a fit, and beside what
 //!   Sought      where a pair stands that is looked up, and in which list of fits
 //!   LitPair     where the lit pairs of a stock stand among its fits, those that are fits and those that are none
+//!   Budget      where a budget ends the searches, what it leaves missing, and of which stock
 //!   Seen        files, calls, and calls by what they came to, those on files with CR LF also by themselves; stocks by isolated cameras and
-//!               by lit pairs; look-ups by what was sought
+//!               by lit pairs; look-ups by what was sought; calls with a budget by what they came to and by what refused them
 //!   never_met   what of all that calls can come to was not met
 //!   too_rare    where isolated cameras stood in too few stocks
-//!   too_few_look_ups, too_few_lit_pairs    what was looked up too seldom; which lit pairs were met too seldom
+//!   too_few_look_ups, too_few_lit_pairs, too_few_budgets    what was looked up too seldom; which lit pairs or budgets were met too seldom
+//!   never_refused    which questions never refused a budget, alone or with each later one
 
 use crate::engine::Fit;
 use crate::fit_lists::{rises, MOST_FITS};
-use crate::frames::Pair;
+use crate::frames::{Pair, Text, BUDGET};
 use crate::graph_trial::{CERTIFICATE_QUESTIONS, GRAPH_QUESTIONS};
 use crate::line_ends::CR_LF;
 use crate::stock_trial::{no_camera_twice, Stock, STOCK_QUESTIONS};
+use crate::truth::{numbers_within, Numbers, MOST_SEARCHES, OVER_BUDGET};
 use std::collections::{BTreeMap, BTreeSet};
 use std::fmt;
 
@@ -241,7 +244,108 @@ fn lit_kinds(stock: &Stock) -> Vec<LitPair> {
     ALL_LIT_PAIRS.into_iter().filter(is).collect()
 }
 
-/// What is sought and which pairs are lit is to be met that often.
+#[derive(Clone, Copy, Debug, PartialEq, Eq, PartialOrd, Ord)]
+pub enum Budget {
+    /// no search at all, and pairs that are lit; none that are
+    Zero,
+    ZeroNoneLit,
+    /// more could be gained
+    StoppedByBudget,
+    /// the last search gained the last pair
+    LastGained,
+    /// one search found none, and was the last that was granted
+    OneSearchMore,
+    /// the same, and more were granted
+    FoundNone,
+    NothingGained,
+    NothingGainedInOne,
+    NoCameras,
+    NoneUnlit,
+    // lanes missing
+    MissingZero,
+    MissingPositive,
+    MissingRounded,
+    /// though no pairing is larger
+    MissingThoughLargest,
+    /// though cameras are left over, as a search found none
+    ZeroThoughLeftOver,
+    // pairs
+    LitPairKept,
+    LitPairSwapped,
+    MostPairs,
+    MostSearches,
+    MostGranted,
+}
+
+const ALL_BUDGETS: [Budget; 20] = [
+    Budget::Zero,
+    Budget::ZeroNoneLit,
+    Budget::StoppedByBudget,
+    Budget::LastGained,
+    Budget::OneSearchMore,
+    Budget::FoundNone,
+    Budget::NothingGained,
+    Budget::NothingGainedInOne,
+    Budget::NoCameras,
+    Budget::NoneUnlit,
+    Budget::MissingZero,
+    Budget::MissingPositive,
+    Budget::MissingRounded,
+    Budget::MissingThoughLargest,
+    Budget::ZeroThoughLeftOver,
+    Budget::LitPairKept,
+    Budget::LitPairSwapped,
+    Budget::MostPairs,
+    Budget::MostSearches,
+    Budget::MostGranted,
+];
+
+/// Of a stock with a greatest number of pairs, a budget that is granted, and a right answer.
+fn budget_kinds(stock: &Stock, greatest: usize, most: u32, answer: &[u8]) -> Vec<Budget> {
+    let Stock { cameras, lit, .. } = stock;
+    let Numbers { pairs, searches, missing } = numbers_within(stock, greatest, most);
+    let (gain, granted, left_over) = (greatest - lit.len(), most as usize, cameras - 2 * pairs);
+    let given = Text::of(answer).pairs(BUDGET.bodies[0]);
+    let gained = pairs > lit.len();
+    let found_none = gain < granted;
+    let is = |kind: &Budget| match kind {
+        Budget::Zero => granted == 0 && !lit.is_empty(),
+        Budget::ZeroNoneLit => granted == 0 && lit.is_empty() && *cameras > 0,
+        Budget::StoppedByBudget => gained && granted < gain,
+        Budget::LastGained => gained && granted == gain,
+        Budget::OneSearchMore => gained && granted == gain + 1,
+        Budget::FoundNone => gained && granted > gain + 1,
+        Budget::NothingGained => gain == 0 && granted > 1,
+        Budget::NothingGainedInOne => gain == 0 && granted == 1,
+        Budget::NoCameras => *cameras == 0 && granted > 0,
+        Budget::NoneUnlit => *cameras > 0 && 2 * lit.len() == *cameras && granted > 0,
+        Budget::MissingZero => missing == 0 && !found_none && granted > 0,
+        Budget::MissingPositive => missing > 0 && granted > 0,
+        Budget::MissingRounded => missing > 0 && left_over % 2 == 1,
+        Budget::MissingThoughLargest => missing > 0 && pairs == greatest && granted > 0,
+        Budget::ZeroThoughLeftOver => found_none && left_over > 1,
+        Budget::LitPairKept => gained && lit.iter().any(|pair| given.contains(pair)),
+        Budget::LitPairSwapped => gained && lit.iter().any(|pair| !given.contains(pair)),
+        Budget::MostPairs => pairs == 63,
+        Budget::MostSearches => searches == MOST_SEARCHES as usize,
+        Budget::MostGranted => most == MOST_SEARCHES,
+    };
+    ALL_BUDGETS.into_iter().filter(is).collect()
+}
+
+/// In the order of documents 01 and 02.
+const BUDGET_QUESTIONS: [u8; 14] = [1, 15, 2, 3, 4, 5, 6, 7, 8, 9, 11, 12, 13, 14];
+
+/// The first question answered no, and a later one, 0 where it is alone.
+fn budget_refusals() -> Vec<(u8, u8)> {
+    let order = BUDGET_QUESTIONS;
+    let with_later = |place: usize| order[place + 1..].iter().copied().chain([0]).collect::<Vec<u8>>();
+    (0..order.len())
+        .flat_map(|place| with_later(place).into_iter().map(|later| (order[place], later)).collect::<Vec<_>>())
+        .collect()
+}
+
+/// What is sought, which pairs are lit and what a budget comes to is to be met that often.
 const FEW: usize = 5;
 
 type Counts = BTreeMap<Came, usize>;
@@ -259,6 +363,8 @@ pub struct Seen {
     pub look_ups: usize,
     sought: BTreeMap<Sought, usize>,
     lit_pairs: BTreeMap<LitPair, usize>,
+    budgets: BTreeMap<Budget, usize>,
+    budget_refusals: BTreeMap<(u8, u8), usize>,
 }
 
 impl Seen {
@@ -291,6 +397,26 @@ impl Seen {
         lit_kinds(stock).into_iter().for_each(|kind| *self.lit_pairs.entry(kind).or_default() += 1);
     }
 
+    /// A stock with a greatest number of pairs, a budget that is granted, and the answer.
+    pub fn budget(&mut self, stock: &Stock, greatest: usize, most: u32, answer: &[u8]) {
+        budget_kinds(stock, greatest, most, answer).into_iter().for_each(|kind| *self.budgets.entry(kind).or_default() += 1);
+    }
+
+    /// A call with a budget that fails these questions, and the number that the engine told: with each other one, or 0 where it is alone.
+    pub fn budget_refusal(&mut self, told: u8, failing: &[u8]) {
+        let alone = (failing == [told]).then_some(0);
+        let others = failing.iter().copied().filter(|question| *question != told);
+        others.chain(alone).for_each(|other| *self.budget_refusals.entry((told, other)).or_default() += 1);
+    }
+
+    pub fn too_few_budgets(&self) -> Vec<Budget> {
+        too_few(&ALL_BUDGETS, &self.budgets)
+    }
+
+    pub fn never_refused(&self) -> Vec<(u8, u8)> {
+        budget_refusals().into_iter().filter(|refusal| !self.budget_refusals.contains_key(refusal)).collect()
+    }
+
     pub fn too_few_look_ups(&self) -> Vec<Sought> {
         too_few(&ALL_SOUGHT, &self.sought)
     }
@@ -314,6 +440,8 @@ impl Seen {
         self.look_ups += other.look_ups;
         add_counts(&mut self.sought, &other.sought);
         add_counts(&mut self.lit_pairs, &other.lit_pairs);
+        add_counts(&mut self.budgets, &other.budgets);
+        add_counts(&mut self.budget_refusals, &other.budget_refusals);
     }
 
     /// In any files, and in files with CR LF.
@@ -333,7 +461,7 @@ fn too_few<K: Copy + Ord>(all: &[K], counts: &BTreeMap<K, usize>) -> Vec<K> {
 fn all() -> BTreeSet<Came> {
     let of_files = GRAPH_QUESTIONS.iter().chain(&STOCK_QUESTIONS).copied();
     let of_certificates = CERTIFICATE_QUESTIONS.iter().map(|number| number + 40);
-    let refusals = [1].into_iter().chain(of_files).chain(of_certificates).map(Came::Refusal);
+    let refusals = [1, OVER_BUDGET].into_iter().chain(of_files).chain(of_certificates).map(Came::Refusal);
     [Came::Path, Came::Barrier, Came::Stock, Came::Yes, Came::No].into_iter().chain(refusals).collect()
 }
 
@@ -348,6 +476,7 @@ impl fmt::Display for Seen {
         writeln!(out, "of them on files with CR LF: {}", told(&self.came_with_cr_lf))?;
         writeln!(out, "isolated cameras in {} stocks: {}", self.stocks, told(&self.isolated))?;
         writeln!(out, "lit pairs: {}", told(&self.lit_pairs))?;
+        writeln!(out, "budgets: {}", told(&self.budgets))?;
         write!(out, "{} look-ups: {}", self.look_ups, told(&self.sought))
     }
 }

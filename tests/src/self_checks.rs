@@ -2,6 +2,8 @@
 //!   lines_agree              lines cut at line feeds and bytes read one by one, on every short text
 //!   look_ups_agree           a look-up by the places of fits that are equal or larger, and by the number of smaller ones, where fits rise
 //!   pairings_agree           all pairings and the blossom algorithm, on small stocks
+//!   budgets_agree            document 02's formulas for a budget, and searches run one by one, on small stocks and middling ones; the
+//!                            bound of pairs and missing lanes
 //!   marks_agree              document 01's marks, but 03 for the cameras that no largest pairing has, which are those without a fit
 //!   bounds_are_met           on larger stocks: a pairing of the greatest number, and the bound of Tutte and Berge that no pairing exceeds
 //!   paths_agree              all regular paths and matchings of arcs, on small graphs
@@ -20,8 +22,9 @@ use crate::generate::{
 };
 use crate::graph_trial::{self, canonical, is_barrier, least_of_parts, mate, regular_end, Graph};
 use crate::judge::{shown, shown_fits, Judge, Trial};
-use crate::stock_trial::{self, all_pairings, includes, is_plan, Stock, ISOLATED};
-use crate::truth::look_up_owed;
+use crate::reference::{self, Reached};
+use crate::stock_trial::{self, all_pairings, includes, is_plan, is_rising_pairing, Stock, ISOLATED};
+use crate::truth::{look_up_owed, numbers_within, Numbers, MOST_SEARCHES};
 
 fn compare(judge: &mut Judge, agree: bool, what: &str, file: &[u8]) -> Trial {
     judge.seen.compared += 1;
@@ -81,6 +84,36 @@ pub fn pairings_agree(judge: &mut Judge, files: usize) -> Trial {
     })
 }
 
+pub fn budgets_agree(judge: &mut Judge, files: usize) -> Trial {
+    (0..files).try_for_each(|number| {
+        let random = &mut judge.random;
+        let stock = match number % 6 {
+            0 | 3 => stock_with_isolated(random),
+            1 => middling_stock(random),
+            _ => small_stock(random),
+        };
+        let greatest = greatest_of(&stock);
+        let agree = (0..=MOST_SEARCHES).all(|most| {
+            let Reached { pairs, searches, missing } = reference::search(&stock, most);
+            let bounded = greatest <= pairs.len() + missing && is_rising_pairing(&stock, &pairs);
+            bounded && numbers_within(&stock, greatest, most) == Numbers { pairs: pairs.len(), searches, missing }
+        });
+        compare(judge, agree, "formulas and searches one by one differ", &stock.file())
+    })
+}
+
+/// The most cameras of which all pairings are gone through for a budget.
+const FEW_CAMERAS: usize = 12;
+
+/// By all pairings, or else by the bound of Tutte and Berge, which no pairing exceeds: one that reaches it is a largest.
+fn greatest_of(stock: &Stock) -> usize {
+    if stock.cameras <= FEW_CAMERAS {
+        return stock_trial::standing(stock.cameras, &stock.fits).greatest;
+    }
+    let marks = blossom::standing(stock.cameras, &stock.fits).marks;
+    bound_without(stock, |camera| marks[camera] == 1)
+}
+
 /// Every largest pairing.
 fn largest_pairings(stock: &Stock) -> Vec<Vec<Pair>> {
     let mut all = all_pairings(stock.cameras, &stock.fits);
@@ -132,7 +165,7 @@ pub fn bounds_are_met(judge: &mut Judge, files: usize) -> Trial {
         let random = &mut judge.random;
         let stock = if number % 10 == 0 { stock_of(127, &ear_fits(random, 127), &[]) } else { middling_stock(random) };
         let standing = blossom::standing(stock.cameras, &stock.fits);
-        let found = is_plan(&stock, standing.greatest, &crate::reference::plan(&stock));
+        let found = is_plan(&stock, standing.greatest, &reference::plan(&stock));
         let agree = found && bound_without(&stock, |camera| standing.marks[camera] == 1) == standing.greatest;
         compare(judge, agree, "the greatest number is not reached, or not bounded", &stock.file())
     })

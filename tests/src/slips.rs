@@ -168,7 +168,7 @@ pub fn of_questions() -> Vec<Named> {
 }
 
 /// Files that a left-out question alone would refuse get a number that is none.
-const NO_NUMBER: u8 = 15;
+const NO_NUMBER: u8 = 99;
 
 fn asking(kind: &str, order: Vec<u8>) -> Parts {
     let right = Parts::right();

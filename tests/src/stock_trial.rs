@@ -6,6 +6,7 @@
 //!   standing              it, by all pairings
 //!   ISOLATED              the mark of a camera without a fit
 //!   marks_by              marks, by the fits and by which cameras some largest pairing leaves over
+//!   is_rising_pairing     pairs are a pairing of the stock's fits, in order, and every lit camera is in one
 //!   is_plan               pairs are a plan of the stock
 
 use crate::frames::{first_no, number, stock_file, Pair, Text, STOCK};
@@ -151,10 +152,15 @@ pub fn marks_by(left_over: &[bool], fits: &[Pair]) -> Vec<usize> {
     (0..left_over.len()).map(mark).collect()
 }
 
-/// A largest pairing that leaves no lit camera unlit, is the lit pairs if those are largest, and stands in order.
-pub fn is_plan(stock: &Stock, greatest: usize, pairs: &[Pair]) -> bool {
+/// A pairing that leaves no lit camera unlit, and stands in order.
+pub fn is_rising_pairing(stock: &Stock, pairs: &[Pair]) -> bool {
     let is_pairing = pairs.iter().all(|pair| stock.fits.contains(pair)) && no_camera_twice(pairs);
     let keeps_lit = (0..stock.cameras).all(|camera| !includes(&stock.lit, camera) || includes(pairs, camera));
+    is_pairing && keeps_lit && rises(pairs)
+}
+
+/// The same, largest, and the lit pairs if those are largest.
+pub fn is_plan(stock: &Stock, greatest: usize, pairs: &[Pair]) -> bool {
     let lit_if_largest = stock.lit.len() != greatest || pairs == stock.lit;
-    is_pairing && pairs.len() == greatest && keeps_lit && lit_if_largest && rises(pairs)
+    pairs.len() == greatest && lit_if_largest && is_rising_pairing(stock, pairs)
 }

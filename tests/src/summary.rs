@@ -58,7 +58,8 @@ impl Summary<'_> {
         }
     }
 
-    /// Every kind of answer and every refusal was met, in files with CR LF too; isolated cameras, lit pairs and look-ups in every place.
+    /// Every kind of answer and every refusal was met, in files with CR LF too; isolated cameras, lit pairs and look-ups in every place;
+    /// every outcome and every refusal of a budget.
     fn try_coverage(&mut self) {
         let kinds = ["every kind of answer and every refusal was met", "the same on files with CR LF"];
         for (name, missing) in kinds.into_iter().zip(self.seen.never_met()) {
@@ -72,6 +73,11 @@ impl Summary<'_> {
         self.tell(
             "pairs were looked up in every place and in every kind of list",
             none_missing(&self.seen.too_few_look_ups(), "too few"),
+        );
+        self.tell("budgets ended the searches in every way", none_missing(&self.seen.too_few_budgets(), "too few"));
+        self.tell(
+            "budgets were refused by every question, alone and with each later one",
+            none_missing(&self.seen.never_refused(), "never met (first, later)"),
         );
     }
 

@@ -3,14 +3,17 @@
 //!   StockTruth, stock_truth    refusal, or the stock and its standing
 //!   Owed                       what a call owes: refusal number, the count that rises, and whether an answer is right
 //!   graph_owed, plan_owed, sheet_owed
+//!   budget_owed                the same of a call with a budget (document 02, L4)
+//!   MOST_SEARCHES, OVER_BUDGET the largest budget, and the question that asks for it
+//!   Numbers, numbers_within    pairs, searches and missing lanes that a budget comes to
 //!   look_up_owed               what the look-up owes, for any fits (document 02, L3)
 
 use crate::arc_matching;
 use crate::blossom;
 use crate::engine::{Fit, Looked};
-use crate::frames::{barrier_file, path_file, plan_file, sheet_file, Text, BARRIER, PATH, PLAN};
+use crate::frames::{barrier_file, budget_file, path_file, plan_file, sheet_file, Text, BARRIER, BUDGET, PATH, PLAN};
 use crate::graph_trial::{self, canonical, is_wanted, mate, Certificate, Graph};
-use crate::stock_trial::{self, is_plan, Standing, Stock};
+use crate::stock_trial::{self, is_plan, is_rising_pairing, Standing, Stock};
 
 /// Up to these sizes everything is tried.
 const SMALL_NODES: usize = 12;
@@ -103,6 +106,38 @@ pub fn sheet_owed(truth: &StockTruth) -> Owed<'_> {
     }
 }
 
+pub const MOST_SEARCHES: u32 = 64;
+pub const OVER_BUDGET: u8 = 15;
+
+pub fn budget_owed(truth: &StockTruth, most: u32) -> Owed<'_> {
+    match truth {
+        _ if most > MOST_SEARCHES => refused(OVER_BUDGET),
+        StockTruth::Refused(number) => refused(*number),
+        StockTruth::Accepted(stock, standing) => Owed {
+            number: 0,
+            count: Count::Stocks,
+            is_right: Box::new(move |answer| is_budget_answer(stock, standing.greatest, most, answer)),
+        },
+    }
+}
+
+/// What the header of the answer to a budget tells.
+#[derive(Clone, Copy, Debug, PartialEq)]
+pub struct Numbers {
+    pub pairs: usize,
+    pub searches: usize,
+    pub missing: usize,
+}
+
+/// By document 02's formulas; where gain is below the budget, a search found none.
+pub fn numbers_within(stock: &Stock, greatest: usize, most: u32) -> Numbers {
+    let (lit, most) = (stock.lit.len(), most as usize);
+    let gain = greatest - lit;
+    let pairs = lit + gain.min(most);
+    let missing = if gain < most { 0 } else { (stock.cameras - 2 * pairs) / 2 };
+    Numbers { pairs, searches: most.min(gain + 1), missing }
+}
+
 /// The answer is exactly the frames of some regular path from the source to its mate.
 fn is_path_answer(graph: &Graph, answer: &[u8]) -> bool {
     match graph_trial::read_certificate(graph, answer) {
@@ -115,6 +150,15 @@ fn is_path_answer(graph: &Graph, answer: &[u8]) -> bool {
 fn is_plan_answer(stock: &Stock, standing: &Standing, answer: &[u8]) -> bool {
     let pairs = Text::of(answer).pairs(PLAN.bodies[0]);
     answer == plan_file(&pairs) && is_plan(stock, standing.greatest, &pairs)
+}
+
+/// The answer is exactly the frames of some pairing with these numbers that keeps lit cameras, and is the lit pairs where none is gained.
+fn is_budget_answer(stock: &Stock, greatest: usize, most: u32, answer: &[u8]) -> bool {
+    let pairs = Text::of(answer).pairs(BUDGET.bodies[0]);
+    let Numbers { pairs: number, searches, missing } = numbers_within(stock, greatest, most);
+    let lit_if_none_gained = number != stock.lit.len() || pairs == stock.lit;
+    let right_number = pairs.len() == number && lit_if_none_gained;
+    answer == budget_file(&pairs, searches, missing) && right_number && is_rising_pairing(stock, &pairs)
 }
 
 /// Of the places of all fits that are equal or larger, the first is the last looked at; where there are none, all fits are.

@@ -1,8 +1,10 @@
 //! Engines with one part wrong. The tests must fail on each of them.
 //!   engines     every wrong engine with what is wrong of it
 //!   Named       what is wrong, and the engine
+//!   improve_in_tree    a search without blossoms
 //! First those that document 01 shuts out, then its traps, then slips of other kinds (slips.rs), then those in line ends
-//! (wrong_line_ends.rs), in the marks of cameras without a fit (wrong_isolated.rs), and in look-ups and question 13 (wrong_look_ups.rs).
+//! (wrong_line_ends.rs), in the marks of cameras without a fit (wrong_isolated.rs), in look-ups and question 13 (wrong_look_ups.rs), and
+//! in the call that stops after so many searches (wrong_budgets.rs).
 
 use crate::blossom::{augment, neighbours, pairs, partners, Partners};
 use crate::frames::Pair;
@@ -10,7 +12,7 @@ use crate::graph_trial::{canonical, is_barrier, is_wanted, mate, Certificate, Gr
 use crate::reference::{self, GraphAnswer, Parts};
 use crate::slips;
 use crate::stock_trial::{self, Standing, Stock};
-use crate::{wrong_isolated, wrong_line_ends, wrong_look_ups};
+use crate::{wrong_budgets, wrong_isolated, wrong_line_ends, wrong_look_ups};
 use std::collections::VecDeque;
 
 pub type Named = (String, Parts);
@@ -24,6 +26,7 @@ pub fn engines() -> Vec<Named> {
     all.extend(wrong_line_ends::engines());
     all.extend(wrong_isolated::engines());
     all.extend(wrong_look_ups::engines());
+    all.extend(wrong_budgets::engines());
     all
 }
 
@@ -101,7 +104,7 @@ fn without_blossoms(stock: &Stock) -> Vec<Pair> {
     pairs(&partner)
 }
 
-fn improve_in_tree(lists: &[Vec<usize>], partner: &mut Partners, root: usize) {
+pub fn improve_in_tree(lists: &[Vec<usize>], partner: &mut Partners, root: usize) {
     let mut before = vec![None; lists.len()];
     let mut visited = vec![false; lists.len()];
     visited[root] = true;

@@ -3,10 +3,12 @@
 //!   all              every one: each slip in each program that can make it, the other programs being right
 //!   manner           that of a program, right or with a slip
 
+use crate::engine::Engine;
 use crate::frames::{path_file, CR, GREATEST_FILE, LF};
+use crate::judge::Call;
 use crate::line_ends::{cr_lf, replaced, CR_LF};
-use crate::prints::{refusal_line, CHECK_PROGRAM, GRAPH_PROGRAM, PLAN_PROGRAM, SHEET_PROGRAM};
-use crate::stand_in::{read_all, Manner, CERTIFICATE_FILE, GRAPH_FILE, WRONG_STATUS};
+use crate::prints::{refusal_line, BUDGET_PROGRAM, CHECK_PROGRAM, GRAPH_PROGRAM, PLAN_PROGRAM, SHEET_PROGRAM};
+use crate::stand_in::{answered, granted, number_in, read_all, Manner, CERTIFICATE_FILE, GRAPH_FILE, WRONG_STATUS};
 use crate::wrong_line_ends::{any_return_ends, returns_refused};
 use std::io::{Read, Result as Done};
 
@@ -16,13 +18,13 @@ pub struct WrongProgram {
     pub manner: Manner,
 }
 
-const EACH: [&str; 4] = [GRAPH_PROGRAM, PLAN_PROGRAM, SHEET_PROGRAM, CHECK_PROGRAM];
-const ANSWERING: [&str; 3] = [GRAPH_PROGRAM, PLAN_PROGRAM, SHEET_PROGRAM];
+const EACH: [&str; 5] = [GRAPH_PROGRAM, PLAN_PROGRAM, SHEET_PROGRAM, BUDGET_PROGRAM, CHECK_PROGRAM];
+const ANSWERING: [&str; 4] = [GRAPH_PROGRAM, PLAN_PROGRAM, SHEET_PROGRAM, BUDGET_PROGRAM];
 
 type Slip = (&'static str, fn(Manner) -> Manner);
 
 pub fn all() -> Vec<WrongProgram> {
-    let lists: [(&[&'static str], &[Slip]); 9] = [
+    let lists: [(&[&'static str], &[Slip]); 13] = [
         (&EACH, &READING),
         (&EACH, &PRINTING),
         (&ANSWERING, &ANSWERS),
@@ -30,6 +32,10 @@ pub fn all() -> Vec<WrongProgram> {
         (&[PLAN_PROGRAM], &[("cuts answers at 448 bytes", cut::<448>)]),
         (&[SHEET_PROGRAM], &[("cuts answers at 896 bytes", cut::<896>)]),
         (&[SHEET_PROGRAM], &OF_MARKS),
+        (&[BUDGET_PROGRAM], &[("cuts answers at 456 bytes", cut::<456>)]),
+        (&[BUDGET_PROGRAM], &OF_WORDS),
+        (&[BUDGET_PROGRAM], &OF_NUMBERS),
+        (&[BUDGET_PROGRAM], &OF_BUDGETS),
         (&[CHECK_PROGRAM], &OF_CHECK),
         (&[CHECK_PROGRAM], &UNOPENED),
     ];
@@ -185,6 +191,174 @@ fn marked(text: &[u8], mark: &[u8], other: &[u8]) -> Vec<u8> {
 fn without_isolated(text: Vec<u8>) -> Vec<u8> {
     let left_out = |line: &[u8]| line.starts_with(MARK_KIND) && line.ends_with(b"03\n");
     text.split_inclusive(|byte| *byte == LF).filter(|line| !left_out(line)).flatten().copied().collect()
+}
+
+// ---- words for a number of searches
+
+/// One word, changed before it is taken as a number.
+fn one_word(words: &[Vec<u8>], change: fn(&[u8]) -> Vec<u8>) -> u32 {
+    let changed: Vec<Vec<u8>> = words.iter().map(|word| change(word)).collect();
+    granted(&changed)
+}
+
+/// The digits from the first on, up to another byte.
+fn leading_digits(word: &[u8]) -> Vec<u8> {
+    word.iter().copied().take_while(u8::is_ascii_digit).collect()
+}
+
+fn digits_alone(word: &[u8]) -> Vec<u8> {
+    word.iter().copied().filter(u8::is_ascii_digit).collect()
+}
+
+/// A word of digits to some base, or one that is none.
+fn to_base(word: &[u8], base: u32) -> Vec<u8> {
+    let text = String::from_utf8_lossy(word);
+    u32::from_str_radix(&text, base).map_or(word.to_vec(), |number| number.to_string().into_bytes())
+}
+
+/// A word with this at its front, without it and to another base.
+fn after_mark(word: &[u8], mark: &[u8], base: u32) -> Vec<u8> {
+    word.strip_prefix(mark).map_or(word.to_vec(), |rest| to_base(rest, base))
+}
+
+/// Each digit of some other scripts as the one that it stands for.
+fn of_other_scripts(word: &[u8]) -> Vec<u8> {
+    let digit = |letter: char| match letter {
+        '\u{966}'..='\u{96F}' => char::from(b'0' + (letter as u32 - 0x966) as u8),
+        '\u{FF10}'..='\u{FF19}' => char::from(b'0' + (letter as u32 - 0xFF10) as u8),
+        _ => letter,
+    };
+    String::from_utf8_lossy(word).chars().map(digit).collect::<String>().into_bytes()
+}
+
+const OF_WORDS: [Slip; 22] = [
+    ("takes no word for 0", |right| Manner { granted: |words| if words.is_empty() { 0 } else { granted(words) }, ..right }),
+    ("takes no word for 64", |right| Manner { granted: |words| if words.is_empty() { 64 } else { granted(words) }, ..right }),
+    ("takes an empty word for 0", |right| Manner { granted: |words| if words == [b""] { 0 } else { granted(words) }, ..right }),
+    ("takes the first word of more", |right| Manner { granted: |words| granted(&words[..words.len().min(1)]), ..right }),
+    ("takes the last word of more", |right| Manner {
+        granted: |words| granted(&words[words.len().saturating_sub(1)..]),
+        ..right
+    }),
+    ("takes all words for one", |right| Manner { granted: |words| granted(&[words.concat()]), ..right }),
+    ("takes a plus sign", |right| Manner { granted: |words| one_word(words, |word| after_mark(word, b"+", 10)), ..right }),
+    ("passes over a minus sign", |right| Manner { granted: |words| one_word(words, |word| after_mark(word, b"-", 10)), ..right }),
+    ("takes a negative number for none", |right| Manner {
+        granted: |words| if words.concat().starts_with(b"-") { 0 } else { granted(words) },
+        ..right
+    }),
+    ("takes blanks around a number", |right| Manner {
+        granted: |words| one_word(words, |word| word.trim_ascii().to_vec()),
+        ..right
+    }),
+    ("takes a blank before a number", |right| Manner {
+        granted: |words| one_word(words, |word| word.trim_ascii_start().to_vec()),
+        ..right
+    }),
+    ("takes a line end after a number", |right| Manner {
+        granted: |words| one_word(words, |word| word.strip_suffix(b"\n").unwrap_or(word).to_vec()),
+        ..right
+    }),
+    ("takes digits up to another byte", |right| Manner { granted: |words| one_word(words, leading_digits), ..right }),
+    ("passes over bytes that are no digits", |right| Manner { granted: |words| one_word(words, digits_alone), ..right }),
+    ("takes what is no number for 0", |right| Manner { granted: number_or_none, ..right }),
+    ("takes numbers in base sixteen", |right| Manner { granted: |words| one_word(words, |word| to_base(word, 16)), ..right }),
+    ("takes a number after 0x in base sixteen", |right| Manner {
+        granted: |words| one_word(words, |word| after_mark(word, b"0x", 16)),
+        ..right
+    }),
+    ("takes a number after 0 in base eight", |right| Manner {
+        granted: |words| one_word(words, |word| after_mark(word, b"0", 8)),
+        ..right
+    }),
+    ("refuses a number after 0", |right| Manner {
+        granted: |words| if words.concat().len() > 1 && words.concat().starts_with(b"0") { u32::MAX } else { granted(words) },
+        ..right
+    }),
+    ("takes digits of other scripts", |right| Manner { granted: |words| one_word(words, of_other_scripts), ..right }),
+    ("takes ten digits", |right| Manner { granted: |words| of_length(words, 10), ..right }),
+    ("takes any number of digits", |right| Manner { granted: |words| of_length(words, usize::MAX), ..right }),
+];
+
+fn number_or_none(words: &[Vec<u8>]) -> u32 {
+    match words {
+        [word] if number_in(word) == u32::MAX && word.len() <= 9 => 0,
+        _ => granted(words),
+    }
+}
+
+/// One word of up to that many digits.
+fn of_length(words: &[Vec<u8>], most: usize) -> u32 {
+    match words {
+        [word] if !word.is_empty() && word.len() <= most => number_in(word),
+        _ => u32::MAX,
+    }
+}
+
+const OF_NUMBERS: [Slip; 12] = [
+    ("refuses 64 searches", |right| Manner { granted: |words| if granted(words) == 64 { 65 } else { granted(words) }, ..right }),
+    ("grants 65 searches", |right| Manner { granted: |words| if granted(words) == 65 { 64 } else { granted(words) }, ..right }),
+    ("grants 99 searches", |right| Manner {
+        granted: |words| if granted(words) <= 99 { granted(words).min(64) } else { 65 },
+        ..right
+    }),
+    ("takes every number for 64", |right| Manner { granted: |words| granted(words).max(64), ..right }),
+    ("takes every larger number for 64", |right| Manner { granted: |words| granted(words).min(64), ..right }),
+    ("takes a number by its lowest byte", |right| Manner { granted: |words| granted(words) % 256, ..right }),
+    ("takes a number by its lowest two bytes", |right| Manner { granted: |words| granted(words) % 65_536, ..right }),
+    ("takes a number of one digit only", |right| Manner {
+        granted: |words| if granted(words) < 10 { granted(words) } else { 65 },
+        ..right
+    }),
+    ("takes nine digits for too many", |right| Manner {
+        granted: |words| if words.concat().len() > 8 { 65 } else { granted(words) },
+        ..right
+    }),
+    ("grants no search", |right| Manner { granted: |words| if granted(words) <= 64 { 0 } else { 65 }, ..right }),
+    ("grants one search more", |right| Manner {
+        granted: |words| if granted(words) < 64 { granted(words) + 1 } else { granted(words) },
+        ..right
+    }),
+    ("takes no search for all", |right| Manner {
+        granted: |words| if granted(words) == 0 { 64 } else { granted(words) },
+        ..right
+    }),
+];
+
+const OF_BUDGETS: [Slip; 7] = [
+    ("puts question 15 after the stock's", |right| Manner { answered: fifteen_last, ..right }),
+    ("puts question 15 after an empty input", |right| Manner { answered: fifteen_after_input, ..right }),
+    ("prints the plan", |right| Manner { answered: |engine, _, file| answered(engine, Call::Plan, file), ..right }),
+    ("prints the plan where all is granted", |right| Manner { answered: plan_for_all, ..right }),
+    ("prints 51 for 61", |right| Manner { print: |text| replaced_kind(text, b"61", b"51"), ..right }),
+    ("prints 5F for 6F", |right| Manner { print: |text| replaced_kind(text, b"6F", b"5F"), ..right }),
+    ("prints no header", |right| Manner { print: without_header, ..right }),
+];
+
+fn fifteen_last(engine: &dyn Engine, call: Call, file: &[u8]) -> Result<Vec<u8>, u8> {
+    answered(engine, Call::Plan, file)?;
+    answered(engine, call, file)
+}
+
+fn fifteen_after_input(engine: &dyn Engine, call: Call, file: &[u8]) -> Result<Vec<u8>, u8> {
+    if file.is_empty() {
+        return Err(4);
+    }
+    answered(engine, call, file)
+}
+
+fn plan_for_all(engine: &dyn Engine, call: Call, file: &[u8]) -> Result<Vec<u8>, u8> {
+    answered(engine, if call == Call::Budget(64) { Call::Plan } else { call }, file)
+}
+
+/// The lines that open with a kind, with another one.
+fn replaced_kind(text: Vec<u8>, kind: &[u8], other: &[u8]) -> Vec<u8> {
+    let line = |line: &[u8]| line.strip_prefix(kind).map_or(line.to_vec(), |rest| [other, rest].concat());
+    text.split_inclusive(|byte| *byte == LF).flat_map(line).collect()
+}
+
+fn without_header(text: Vec<u8>) -> Vec<u8> {
+    text.split_inclusive(|byte| *byte == LF).filter(|line| !line.starts_with(b"61")).flatten().copied().collect()
 }
 
 // ---- the check
