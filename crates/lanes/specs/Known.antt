@@ -1,5 +1,6 @@
 -- Known graphs and stocks as files (document 01, "Known graphs and stocks"): what is accepted, refused, checked and written, byte for byte. So the
 -- promises, which speak of accepted files, speak of these.
+--   arcLines, graphFileOf             arcs as they are written; a graph with the source 0 as a file
 --   g1File, g4File, g5File, s5File    G1, G4, G5 and S5
 --   KnownFiles                        what the questions and the check say of them, and of files that are cut short
 --   KnownTexts                        G1's answer, the sheets of S1 and S3 and the plan of S5, as the document prints them
@@ -30,17 +31,21 @@ use Rattle.lanes.specs.Entry.{sheetOfFile, checkPost, mostFault, budgetF
 use Rattle.lanes.specs.Promise.{arc, graphOf, g4, g5}
 use Rattle.lanes.specs.declared.Verdict.the-variants.{Refused, Yes, No}
 
+abbrev pub arcLines : List Pair → List ℕ
+arcLines [] = []
+arcLines (x ∷ xs) = frame6 arcKind (x .first) (x .second) ++ arcLines xs
+
+abbrev pub graphFileOf : (pairs : ℕ) → List Pair → List ℕ
+graphFileOf n xs = frame6 graphKind n 0 ++ arcLines xs ++ frameOf4 graphEnd (length xs)
+
 abbrev pub g1File : List ℕ
-g1File = frame6 graphKind 1 0 ++ frameOf4 graphEnd 0
+g1File = graphFileOf 1 []
 
 abbrev pub g4File : List ℕ
-g4File =
-    frame6 graphKind 2 0 ++ frame6 arcKind 0 2 ++ frame6 arcKind 3 1 ++ frame6 arcKind 2 3 ++ frame6 arcKind 2 3 ++ frameOf4 graphEnd 4
+g4File = graphFileOf 2 g4
 
 abbrev pub g5File : List ℕ
-g5File =
-    frame6 graphKind 2 0 ++ frame6 arcKind 0 2 ++ frame6 arcKind 3 1 ++ frame6 arcKind 2 3 ++ frame6 arcKind 2 3 ++ frame6 arcKind 0 2 ++
-    frame6 arcKind 3 1 ++ frameOf4 graphEnd 6
+g5File = graphFileOf 2 g5
 
 abbrev pub s5File : List ℕ
 s5File =
