@@ -54,28 +54,28 @@ says-which No h = ((λ e. absurd (omega arith), λ e. ap said e), (λ _. refl, �
 pub check-tells : CheckTells
 check-tells f c = says-which (checkPost f c) (refused-high f c)
 
-unpacks : (n k : ℕ) → leb n 15 ≡ true → Unpacks (told n k)
+unpacks : (n k : ℕ) → leb n 255 ≡ true → Unpacks (told n k)
 unpacks n k h =
-    let l = leb-true n 15 h in by-test (eqb n 0) (λ t. rw t (omega (arith, l), omega (arith, l), λ small. omega (arith, l))) (λ t. rw t (omega (arith, l), omega (arith, l), λ small. omega (arith, l)))
+    let l = leb-true n 255 h in by-test (eqb n 0) (λ t. rw t (omega (arith, l), omega (arith, l), λ small. omega (arith, l))) (λ t. rw t (omega (arith, l), omega (arith, l), λ small. omega (arith, l)))
 
 -- question 1, and then those of a file
-after-room : (o : List ℕ) (n : ℕ) → leb n 15 ≡ true → leb (orElse (roomFault o) n) 15 ≡ true
+after-room : (o : List ℕ) (n : ℕ) → leb n 255 ≡ true → leb (orElse (roomFault o) n) 255 ≡ true
 after-room o n h = by-test (leb room (length o)) (λ t. rw t h) (λ t. rw t)
 
 pub calls-tell : CallsTell
 calls-tell f o k = (
-  unpacks (answerFault f o) k (after-room o (graphFault f) (graph-refusal f (λ (n : ℕ). leb n 15) refl refl)),
-  unpacks (sheetFault f o) k (after-room o (stockFault f) (stock-refusal f (λ (n : ℕ). leb n 15) refl refl)),
+  unpacks (answerFault f o) k (after-room o (graphFault f) (graph-refusal f (λ (n : ℕ). leb n 255) refl refl)),
+  unpacks (sheetFault f o) k (after-room o (stockFault f) (stock-refusal f (λ (n : ℕ). leb n 255) refl refl)),
 )
 
-unpacks-searched : (n k j : ℕ) → leb n 15 ≡ true → k < 4294967296 → UnpacksSearched (searched n k j)
+unpacks-searched : (n k j : ℕ) → leb n 255 ≡ true → k < 4294967296 → UnpacksSearched (searched n k j)
 unpacks-searched n k j h small =
-    let l = leb-true n 15 h in
+    let l = leb-true n 255 h in
     by-test (eqb n 0) (λ t. rw t (omega (arith, l), omega (arith, l), omega (arith, l))) (λ t. rw t (omega (arith, l), omega (arith, l), omega (arith, l)))
 
 -- question 15, and then the stock's
-after-most : (b : ℕ) (f : List ℕ) → leb (orElse (mostFault b) (stockFault f)) 15 ≡ true
-after-most b f = by-test (leb b searchesMost) (λ t. rw t (stock-refusal f (λ (n : ℕ). leb n 15) refl refl)) (λ t. rw t)
+after-most : (b : ℕ) (f : List ℕ) → leb (orElse (mostFault b) (stockFault f)) 255 ≡ true
+after-most b f = by-test (leb b searchesMost) (λ t. rw t (stock-refusal f (λ (n : ℕ). leb n 255) refl refl)) (λ t. rw t)
 
 pub budget-tells : BudgetTells
 budget-tells b f o k j = unpacks-searched (budgetFault b f o) k j (after-room o (orElse (mostFault b) (stockFault f)) (after-most b f))
