@@ -30,10 +30,10 @@ stock('random_crlf.stock', 127, fits, [], '\r\n')
 triangles = [(3 * i + a, 3 * i + b) for i in range(42) for a, b in ((0, 1), (0, 2), (1, 2))]
 stock('triangles.stock', 126, triangles + [(3 * i + 2, 3 * i + 3) for i in range(41)], [])
 stock('chain.stock', 126, [(i, i + 1) for i in range(125)], [(i, i + 1) for i in range(1, 124, 2)])
-even = [(2 * random.randrange(128), 2 * random.randrange(128)) for _ in range(4096)]
+even = [random.sample(range(0, 256, 2), 2) for _ in range(4096)]
 graph('even.graph', even)
 graph('even_crlf.graph', even[:3749], '\r\n')  # the largest that 60,000 bytes hold with these line ends
-graph('buds.graph', [(0, 2)] + [(random.randrange(2, 256), random.randrange(2, 256)) for _ in range(4095)])
+graph('buds.graph', [(0, 2)] + [random.sample(range(2, 256), 2) for _ in range(4095)])
 # Each of the first 38 cameras has a single fit, which is lit, so that few fits stand before most lit pairs; the others fit nearly all
 # later ones.
 first = [(u, u + 89) for u in range(38)]
