@@ -168,7 +168,8 @@ pub fn traps(judge: &mut Judge) -> Trial {
 pub fn tallies(judge: &mut Judge) -> Trial {
     let (barred, open) = (graph(1, &[]).file(), graph(1, &[(0, 1), (0, 1)]).file());
     let chain = stock(4, &[(0, 1), (1, 2), (2, 3)], &[(1, 2)]).file();
-    let calls: [(Call, &[u8], Count); 12] = [
+    let to_itself = graph(1, &[(0, 0), (1, 1)]).file();
+    let calls: [(Call, &[u8], Count); 13] = [
         (Call::Graph, &open, Count::Paths),
         (Call::Graph, &barred, Count::Barriers),
         (Call::Plan, &chain, Count::Stocks),
@@ -176,6 +177,7 @@ pub fn tallies(judge: &mut Judge) -> Trial {
         (Call::Graph, b"", Count::Refusals),
         (Call::Plan, &barred, Count::Refusals),
         (Call::Sheet, b"\n", Count::Refusals),
+        (Call::Graph, &to_itself, Count::Refusals),
         (Call::Graph, &open, Count::Paths),
         (Call::Budget(0), &chain, Count::Stocks),
         (Call::Budget(64), &chain, Count::Stocks),

@@ -1,5 +1,5 @@
 //! Everything of a size.
-//!   all_graphs      every graph of one or two mate pairs and up to three pairs of arcs, from every source
+//!   all_graphs      every graph of one or two mate pairs and up to three pairs of arcs, from every source, those with self arcs too
 //!   all_stocks      every stock of up to five cameras, with every pairing lit
 //!   every_fits      every set of fits among some cameras
 //!   all_classes     every table of classes up to 04 for random graphs of one or two mate pairs; of three those that agree with mates
@@ -7,36 +7,49 @@
 //!   all_texts       every text of up to six digits, frame kinds and bytes of line ends
 //!   texts           every text of up to a number of pieces
 
+use crate::cases::verdict;
+use crate::engine::Verdict;
 use crate::faults::graph_for_certificates;
 use crate::frames::{barrier_file, path_file, Pair};
 use crate::generate::{all_fits, random_graph};
-use crate::graph_trial::{self, is_barrier, mate, Graph};
+use crate::graph_trial::{self, is_barrier, mate, mate_of, Graph, SELF_ARC};
 use crate::judge::{shown, Judge, Trial};
 use crate::stock_trial::{all_pairings, Stock};
 
 pub fn all_graphs(judge: &mut Judge) -> Trial {
     let sources = [1, 2].into_iter().flat_map(|pairs| (0..2 * pairs).map(move |source| (pairs, source)));
+    let mut met = [0, 0];
     for (pairs, source) in sources {
         for arc_pairs in 0..=3 {
-            try_graphs(judge, &mut Graph { pairs, source, arcs: Vec::new() }, arc_pairs)?;
+            try_graphs(judge, &mut Graph { pairs, source, arcs: Vec::new() }, arc_pairs, &mut met)?;
         }
+    }
+    // of n nodes, n(n-1) of n*n arcs are no self arcs: 2(1 + 2 + 4 + 8) + 4(1 + 12 + 144 + 1,728), of 2(1 + 4 + ..) + 4(1 + 16 + ..)
+    if met != [7_570, 10_076] {
+        return Err(format!("{} graphs without self arcs, {} with them", met[0], met[1]));
     }
     Ok(())
 }
 
-/// The graph with that many more pairs of arcs, in every way.
-fn try_graphs(judge: &mut Judge, graph: &mut Graph, more: usize) -> Trial {
+/// The graph with that many more pairs of arcs, in every way. Those without self arcs and those with them are counted.
+fn try_graphs(judge: &mut Judge, graph: &mut Graph, more: usize, met: &mut [usize; 2]) -> Trial {
     if more == 0 {
-        return judge.made_graph(graph);
+        met[usize::from(graph.has_self_arcs())] += 1;
+        return if graph.has_self_arcs() { try_refused(judge, &graph.file()) } else { judge.made_graph(graph) };
     }
     let nodes = graph.nodes();
     (0..nodes * nodes).try_for_each(|number| {
-        let (tail, head) = (number / nodes, number % nodes);
-        graph.arcs.extend([(tail, head), (mate(head), mate(tail))]);
-        let outcome = try_graphs(judge, graph, more - 1);
+        let arc = (number / nodes, number % nodes);
+        graph.arcs.extend([arc, mate_of(arc)]);
+        let outcome = try_graphs(judge, graph, more - 1, met);
         graph.arcs.truncate(graph.arcs.len() - 2);
         outcome
     })
+}
+
+fn try_refused(judge: &mut Judge, file: &[u8]) -> Trial {
+    verdict(judge, file, &path_file(&[]), Verdict::Refused(SELF_ARC))?;
+    judge.graph_all_ways(file)
 }
 
 /// Every set of fits among some cameras, in the file's order.

@@ -1,13 +1,13 @@
 //! Files made to fail chosen questions, for each kind of file.
 //!   Kind                  graph, stock, path, barrier
-//!   questions             the questions put to a kind, in document 01's order
+//!   questions             the questions put to a kind, in the order of documents 01 and 02
 //!   failing               a file of which the first question answered no is the first given, and the others given are answered no too
 //!   graph_for_certificates    the graph beside which faulty certificates are made
 //! The faults in numbers are made first, then those in lines, then those in bytes; what comes out is asked, and made again until it fits.
 
 use crate::frames::{first_no, pair_lines, Form, Pair, Text, BARRIER, CR, GRAPH, GREATEST_FILE, LF, PATH, STOCK};
 use crate::generate::{all_fits, random_graph};
-use crate::graph_trial::{self, mate, Graph, CERTIFICATE_QUESTIONS, GRAPH_QUESTIONS};
+use crate::graph_trial::{self, mate, mate_of, Graph, CERTIFICATE_QUESTIONS, GRAPH_QUESTIONS, SELF_ARC};
 use crate::random::Random;
 use crate::stock_trial::{self, STOCK_QUESTIONS};
 
@@ -67,6 +67,13 @@ fn graph_with(random: &mut Random, faults: &[u8]) -> Vec<u8> {
         let odd = 2 * random.below(arc_pairs) + 1;
         let other = (random.below(graph.nodes()), random.below(graph.nodes()));
         graph.arcs[odd] = *random.choose(&[graph.arcs[odd - 1], (graph.arcs[odd].1, graph.arcs[odd].0), other]);
+    }
+    if has(SELF_ARC) {
+        let (arc, node) = (random.below(graph.arcs.len()), random.below(graph.nodes()));
+        graph.arcs[arc] = (node, node);
+        if !has(10) {
+            graph.arcs[mate(arc)] = mate_of((node, node));
+        }
     }
     if has(9) {
         let even = 2 * random.below(arc_pairs);

@@ -1,5 +1,5 @@
 //! Random graphs and stocks.
-//!   small_graph          few nodes; parallel arcs, self arcs and arcs from a node to its mate among its arcs
+//!   small_graph          few nodes; parallel arcs and arcs from a node to its mate among its arcs
 //!   middling_graph       up to 40 nodes
 //!   random_graph         a graph of given size
 //!   doubled_table        document 01's doubled table of a stock, as a graph
@@ -15,7 +15,7 @@
 
 use crate::blossom;
 use crate::frames::Pair;
-use crate::graph_trial::{mate, Graph};
+use crate::graph_trial::{mate, mate_of, Graph};
 use crate::random::Random;
 use crate::stock_trial::Stock;
 
@@ -28,13 +28,11 @@ pub fn random_graph(random: &mut Random, pairs: usize, arc_pairs: usize) -> Grap
     for _ in 0..arc_pairs {
         let tail = if random.chance(15) { source } else { random.below(nodes) };
         let (tail, head) = match random.below(100) {
-            0..=6 => (tail, tail),
-            7..=17 => (tail, mate(tail)),
-            18..=32 if !arcs.is_empty() => *random.choose(&arcs),
-            _ => (tail, random.below(nodes)),
+            0..=10 => (tail, mate(tail)),
+            11..=25 if !arcs.is_empty() => *random.choose(&arcs),
+            _ => (tail, random.another(0, nodes - 1, tail)),
         };
-        arcs.push((tail, head));
-        arcs.push((mate(head), mate(tail)));
+        arcs.extend([(tail, head), mate_of((tail, head))]);
     }
     Graph { pairs, source, arcs }
 }
@@ -59,7 +57,7 @@ pub fn doubled_table(stock: &Stock) -> Graph {
         let lit = stock.lit.contains(&(*u, *v));
         single.push(if lit { (2 * u + 1, 2 * v) } else { (2 * u, 2 * v + 1) });
     }
-    let arcs = single.iter().flat_map(|(tail, head)| [(*tail, *head), (mate(*head), mate(*tail))]).collect();
+    let arcs = single.into_iter().flat_map(|arc| [arc, mate_of(arc)]).collect();
     Graph { pairs: stock.cameras + 1, source, arcs }
 }
 

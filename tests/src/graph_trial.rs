@@ -1,6 +1,9 @@
-//! Graphs and certificates by trial (document 01, "The graph", "The barrier", "Questions put to a call").
-//!   Graph                 mate pairs of nodes, source, arcs in file order
+//! Graphs and certificates by trial (document 01, "The graph", "The barrier", "Questions put to a call"; document 02, L5).
+//!   Graph                 mate pairs of nodes, source, arcs in file order; whether it has self arcs, from a node to itself
+//!   mate_of, is_self_arc  the mate of an arc, by its ends; whether an arc is a self arc
 //!   ask, read             one question put to a graph file; all in order
+//!   failed                every question that a graph file fails
+//!   SELF_ARC, MOST_ARCS   the question that refuses self arcs; as many arcs as a graph may have
 //!   reachable             the nodes where some regular path from the source ends: every regular path is gone along
 //!   least_of_parts        connected parts, each named by its least node
 //!   canonical             the canonical barrier's classes, of the reachable nodes
@@ -25,6 +28,10 @@ impl Graph {
         2 * self.pairs
     }
 
+    pub fn has_self_arcs(&self) -> bool {
+        self.arcs.iter().any(is_self_arc)
+    }
+
     pub fn file(&self) -> Vec<u8> {
         crate::frames::graph_file(self.pairs, self.source, &self.arcs)
     }
@@ -35,9 +42,24 @@ pub fn mate(number: usize) -> usize {
     number ^ 1
 }
 
+/// The mate of an arc by its ends, wherever it stands.
+pub fn mate_of((tail, head): Pair) -> Pair {
+    (mate(head), mate(tail))
+}
+
+pub fn is_self_arc((tail, head): &Pair) -> bool {
+    tail == head
+}
+
 // ---- graph files
 
-pub const GRAPH_QUESTIONS: [u8; 9] = [2, 3, 4, 5, 6, 7, 8, 9, 10];
+/// Is no arc one from a node to itself?
+pub const SELF_ARC: u8 = 16;
+
+pub const MOST_ARCS: usize = 8_192;
+
+/// In the order of documents 01 and 02.
+pub const GRAPH_QUESTIONS: [u8; 10] = [2, 3, 4, 5, 6, 7, 8, 9, SELF_ARC, 10];
 
 fn graph_in(text: &Text) -> Graph {
     let header = text.header();
@@ -45,13 +67,18 @@ fn graph_in(text: &Text) -> Graph {
 }
 
 pub fn ask(text: &Text, question: u8) -> bool {
-    let graph = graph_in(text);
+    ask_of(text, &graph_in(text), question)
+}
+
+/// A question put to a file, and to the graph that stands in it.
+fn ask_of(text: &Text, graph: &Graph, question: u8) -> bool {
     let named = |node: usize| node < graph.nodes();
     match question {
         5 => (0x01..=0x80).contains(&graph.pairs) && named(graph.source),
-        8 => graph.arcs.len().is_multiple_of(2) && graph.arcs.len() <= 8_192,
+        8 => graph.arcs.len().is_multiple_of(2) && graph.arcs.len() <= MOST_ARCS,
         9 => graph.arcs.iter().all(|(tail, head)| named(*tail) && named(*head)),
-        10 => graph.arcs.chunks_exact(2).all(|two| two[1] == (mate(two[0].1), mate(two[0].0))),
+        SELF_ARC => !graph.has_self_arcs(),
+        10 => graph.arcs.chunks_exact(2).all(|two| two[1] == mate_of(two[0])),
         _ => text.answers(&GRAPH, question),
     }
 }
@@ -63,10 +90,17 @@ pub fn read(file: &[u8]) -> Result<Graph, u8> {
 
 pub fn read_in_order(file: &[u8], order: &[u8]) -> Result<Graph, u8> {
     let text = Text::of(file);
-    match first_no(order, |question| ask(&text, question)) {
-        0 => Ok(graph_in(&text)),
+    let graph = graph_in(&text);
+    match first_no(order, |question| ask_of(&text, &graph, question)) {
+        0 => Ok(graph),
         refusal => Err(refusal),
     }
+}
+
+pub fn failed(file: &[u8]) -> Vec<u8> {
+    let text = Text::of(file);
+    let graph = graph_in(&text);
+    GRAPH_QUESTIONS.into_iter().filter(|question| !ask_of(&text, &graph, *question)).collect()
 }
 
 // ---- regular paths

@@ -13,7 +13,7 @@ use crate::random::Random;
 use crate::seen::Seen;
 use crate::{
     budget_trials, cases, damage, exhaustive, isolated_trials, large, line_end_trials, lit_pair_trials, look_up_trials,
-    program_trials, self_checks, sizes, trials,
+    program_trials, self_arc_trials, self_checks, sizes, trials,
 };
 use std::panic::{catch_unwind, AssertUnwindSafe};
 
@@ -77,12 +77,14 @@ pub fn of_engine() -> Vec<EngineGroup> {
         fixed("the folder examples/", cases::examples_folder),
         fixed("tallies", cases::tallies),
         fixed("traps", cases::traps),
+        drawn("self arcs: known graphs", self_arc_trials::known),
         fixed("look-ups: known ones", look_up_trials::known),
         fixed("lit pairs: known stocks", lit_pair_trials::known),
         fixed("budgets: known stocks", budget_trials::known),
         fixed("budgets: above 64", budget_trials::over),
         fixed("budgets: rooms", budget_trials::rooms),
         drawn("budgets: calls in a row", budget_trials::calls_in_a_row),
+        drawn("self arcs: beside certificates", self_arc_trials::beside_certificates),
         drawn("isolated cameras: known sheets", isolated_trials::known_sheets),
         fixed("isolated cameras: equal sheets", isolated_trials::equal_sheets),
         share("isolated cameras: other lit pairs", 10, isolated_trials::other_lit_pairs),
@@ -99,10 +101,15 @@ pub fn of_engine() -> Vec<EngineGroup> {
         share("budgets: two calls add up to one", 40, budget_trials::budgets_add_up),
         share("budgets: one search at a time", 20, budget_trials::one_at_a_time),
         share("budgets: all of them for one stock", 8, budget_trials::every_budget),
+        drawn("self arcs: among 8,192 arcs", self_arc_trials::among_most_arcs),
+        drawn("self arcs: every two arcs", self_arc_trials::every_two_arcs),
+        share("self arcs: put in and taken out", 5, self_arc_trials::put_in_and_taken_out),
         share("single faults", 30, trials::single_faults),
         share("pairs of faults", 50, trials::pairs_of_faults),
         drawn("budgets: every refusal", budget_trials::refusals),
         drawn("faults in both files of a check", trials::faults_in_both_files),
+        drawn("self arcs: with other faults", self_arc_trials::with_other_faults),
+        share("self arcs: in each arc", 2, self_arc_trials::in_each_arc),
         fixed("edges", cases::edges),
         fixed("points left to the reader", cases::points_left_to_the_reader),
         drawn("60,000 bytes with CR LF", line_end_trials::lengths),
@@ -165,6 +172,7 @@ pub fn of_programs() -> Vec<ProgramGroup> {
     vec![
         programs("programs: document 01's examples", false, program_trials::examples),
         programs("programs: files that can't be opened", false, program_trials::unopened_files),
+        programs("programs: self arcs", true, program_trials::self_arcs),
         programs("programs: input in pieces", false, program_trials::pieces),
         programs("programs: long and empty input", false, program_trials::lengths),
         programs("programs: words that are no budget", true, program_trials::other_words),

@@ -8,6 +8,7 @@
 //!   budget_owing, budget_all_ways    the same where the truth is at hand; with all line ends
 //!   budget_failing        the same where some questions are answered no: the engine's number is counted, with the others of them
 //!   given                 an answer as the engine gives it, whatever the documents say of it
+//!   self_arcs             a graph file with self arcs handed to the graph call and to the check; the engine's numbers are counted
 //!   short_buffers         the same with a buffer that is too small
 //!   all_calls             any bytes handed to every call
 //!   check, certificate    two files handed to the check; the second counted as a file tried
@@ -21,10 +22,10 @@
 use crate::engine::{Engine, Fit, Looked, Searched, Tally, Verdict};
 use crate::fit_lists::{joined, parted};
 use crate::frames::{number, Text, GREATEST_FILE};
-use crate::graph_trial::{self, Graph};
+use crate::graph_trial::{self, Graph, SELF_ARC};
 use crate::line_ends::all_ways;
 use crate::random::Random;
-use crate::seen::{Came, Seen};
+use crate::seen::{Came, Reading, Seen};
 use crate::stock_trial::{self, Stock};
 use crate::truth::{
     budget_owed, graph_owed, graph_truth, look_up_owed, opening, plan_owed, sheet_owed, stock_truth, Count, GraphTruth, Owed,
@@ -163,6 +164,25 @@ impl<'a> Judge<'a> {
         let owed = Owed { number: 0, count: Count::Stocks, is_right: Box::new(|_| true) };
         self.seen.files += 1;
         self.lend(call, file, LEAST_ROOM, &owed)
+    }
+
+    /// Whatever else the file fails; with a room that is too small, or else one that is large enough, and beside a certificate.
+    pub fn self_arcs(&mut self, file: &[u8], short: Option<usize>, certificate: &[u8]) -> Trial {
+        let failing = graph_trial::failed(file);
+        let truth = GraphTruth::Refused(failing[0]);
+        if let (SELF_ARC, Ok(graph)) = (failing[0], graph_trial::read_in_order(file, &[])) {
+            self.seen.self_arcs(&graph);
+        }
+        let room = short.unwrap_or_else(|| self.rooms().0);
+        let (told, _) = self.lent(Call::Graph, file, room, &graph_owed(&truth))?;
+        let of_room = (room < LEAST_ROOM).then_some(1);
+        let of_call: Vec<u8> = of_room.into_iter().chain(failing.iter().copied()).collect();
+        self.seen.self_arc_refusal(Reading::Graph, file, told, &of_call);
+        self.seen.files += 1;
+        if let Verdict::Refused(number) = self.checked(file, certificate)? {
+            self.seen.self_arc_refusal(Reading::Check, file, number, &failing);
+        }
+        Ok(())
     }
 
     pub fn certificate(&mut self, graph: &[u8], certificate: &[u8]) -> Trial {

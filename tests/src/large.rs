@@ -64,7 +64,11 @@ pub fn nested_buds(judge: &mut Judge) -> Trial {
 /// 8,192 arcs, that many of them from the source.
 pub fn dense_graph(random: &mut Random, entries: usize) -> Graph {
     let entry: Vec<Pair> = (0..entries).map(|_| (0, random.between(2, 255))).collect();
-    let elsewhere: Vec<Pair> = (entries..4_096).map(|_| (random.between(2, 255), random.between(2, 255))).collect();
+    let mut inner = || {
+        let tail = random.between(2, 255);
+        (tail, random.another(2, 255, tail))
+    };
+    let elsewhere: Vec<Pair> = (entries..4_096).map(|_| inner()).collect();
     with_mates(128, &[&entry, &elsewhere])
 }
 

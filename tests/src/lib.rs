@@ -14,6 +14,7 @@
 //!   wrong_isolated   engines that mark cameras without a fit wrongly
 //!   wrong_budgets    engines that stop wrongly after so many searches
 //!   wrong_look_ups   engines that look up a pair wrongly, or ask wrongly whether lit pairs are fits
+//!   wrong_self_arcs  engines that ask wrongly for arcs from a node to itself
 //!   judge            a call judged whole: result, buffer, tally
 //!   seen             what was tried, counted
 //!   generate         random graphs and stocks
@@ -32,6 +33,7 @@
 //!   look_up_trials   a pair looked up among fits: whether it is found, and how many are looked at
 //!   lit_pair_trials  lit pairs that are fits, and such as are none
 //!   budget_trials    the call that stops after so many searches
+//!   self_arc_trials  graphs with an arc from a node to itself
 //!   prints           what the programs print
 //!   programs         the programs, run and judged
 //!   stand_in         this binary in a program's place
@@ -70,6 +72,7 @@ pub mod programs;
 pub mod random;
 pub mod reference;
 pub mod seen;
+pub mod self_arc_trials;
 pub mod self_checks;
 pub mod shapes;
 pub mod sizes;
@@ -85,3 +88,4 @@ pub mod wrong_isolated;
 pub mod wrong_line_ends;
 pub mod wrong_look_ups;
 pub mod wrong_programs;
+pub mod wrong_self_arcs;

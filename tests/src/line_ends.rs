@@ -1,5 +1,6 @@
 //! Line ends (document 02, L1): a file with other ends than its own, right or damaged.
-//!   CR_LF             the longer end
+//!   CR_LF, has_cr_lf  the longer end; whether a file has it anywhere
+//!   Ends, ends_of     which ends a file has
 //!   cr_lf             a file with it throughout
 //!   mixed             with both ends
 //!   all_ways          as it is, with CR LF throughout, and mixed
@@ -13,6 +14,27 @@ use crate::frames::{CR, LF};
 use crate::random::Random;
 
 pub const CR_LF: &[u8] = b"\r\n";
+
+pub fn has_cr_lf(file: &[u8]) -> bool {
+    file.windows(2).any(|two| two == CR_LF)
+}
+
+#[derive(Clone, Copy, Debug, PartialEq, Eq, PartialOrd, Ord)]
+pub enum Ends {
+    Lf,
+    CrLf,
+    Mixed,
+}
+
+/// None of a file without an end.
+pub fn ends_of(file: &[u8]) -> Option<Ends> {
+    match (bare_ends(file).is_empty(), has_cr_lf(file)) {
+        (true, true) => Some(Ends::CrLf),
+        (false, true) => Some(Ends::Mixed),
+        (false, false) => Some(Ends::Lf),
+        (true, false) => None,
+    }
+}
 
 /// The places of line feeds without a CR before them.
 fn bare_ends(file: &[u8]) -> Vec<usize> {

@@ -2,6 +2,7 @@
 //!   examples            document 01's known graphs and stocks, and its certificates
 //!   isolated_cameras    the known stocks with isolated cameras, and random ones, with all line ends
 //!   unopened_files      a file that can't be opened counts as empty
+//!   self_arcs           graphs with self arcs, and such as nearly have them, with all line ends
 //!   budgets             S5 and others with words for every number of searches from 0 to 64
 //!   other_words         words that are no such number, beside good stocks and faulty ones
 //!   refusals            every question as the first failing one, of every file of every program, with all line ends
@@ -20,8 +21,9 @@ use crate::cases::{graph_of_arcs, one_of};
 use crate::damage::{BYTES, DIGITS};
 use crate::engine::Verdict;
 use crate::faults::{failing, graph_for_certificates, questions, Kind, KINDS};
-use crate::frames::{budget_file, file, path_file, plan_file, sheet_file, stock_file, Text, CR, GREATEST_FILE};
+use crate::frames::{budget_file, file, path_file, plan_file, sheet_file, stock_file, Pair, Text, CR, GREATEST_FILE};
 use crate::generate::{all_fits, middling_graph, middling_stock, nearly_largest_lit, some_fits, stock_of, stock_with_isolated};
+use crate::graph_trial::SELF_ARC;
 use crate::judge::{shown, Trial};
 use crate::known::{budgets as known_budgets, graph, graphs, isolated_stocks, stocks, KnownBudget, G4, G5, S5_BUDGETS};
 use crate::large::dense_graph;
@@ -78,6 +80,34 @@ pub fn unopened_files(programs: &Programs, _: &mut Random) -> Trial {
         owed(&programs.check_given(graph, missing)?, refusal_line(44))?;
     }
     owed(&programs.check_given(graph, certificate)?, verdict_line(Verdict::Yes))
+}
+
+/// Mate pairs, arcs from source 0, and the line that refuses them.
+const SELF_ARCS: [(usize, &[Pair], &[u8]); 10] = [
+    (1, &[(0, 0), (1, 1)], b"7E10\n"),
+    (1, &[(0, 0), (0, 0)], b"7E10\n"),
+    (2, &[(0, 2), (2, 2)], b"7E10\n"),
+    (2, &[(3, 3), (3, 1)], b"7E10\n"),
+    (2, &[(0, 2), (3, 1), (3, 3), (2, 2), (2, 3), (2, 3)], b"7E10\n"),
+    (128, &[(0, 2), (0, 2), (255, 255), (254, 254)], b"7E10\n"),
+    (2, &[(0, 2), (2, 0)], b"7E0A\n"),
+    (2, &[(2, 2), (3, 3), (4, 4), (5, 5)], b"7E09\n"),
+    (2, &[(0, 0), (1, 1), (2, 2)], b"7E08\n"),
+    (9, &[(0, 16), (17, 0)], b"7E0A\n"),
+];
+
+pub fn self_arcs(programs: &Programs, random: &mut Random) -> Trial {
+    for (pairs, arcs, right) in SELF_ARCS {
+        for file in all_ways(random, &graph(pairs, arcs).file()) {
+            owed(&programs.graph(&file)?, right.to_vec())?;
+            owed(&programs.check(&file, &path_file(&[]))?, right.to_vec())?;
+        }
+    }
+    // beside an answer of the graph without them, and beside no certificate
+    let g5 = graph(2, &[&G5[..], &[(2, 2), (3, 3)]].concat()).file();
+    [&graphs()[4].answers[0][..], b""]
+        .into_iter()
+        .try_for_each(|certificate| owed(&programs.check(&g5, certificate)?, refusal_line(SELF_ARC)))
 }
 
 // ---- budgets
@@ -324,10 +354,14 @@ pub fn largest_files(programs: &Programs, random: &mut Random) -> Trial {
         let mut graph = dense_graph(random, entries);
         let answer = programs.graph(&graph.file())?;
         owed(&programs.check(&graph.file(), &answer)?, verdict_line(Verdict::Yes))?;
-        // the last arc is not the mate of the one before
-        graph.arcs[8_191].0 ^= 1;
+        // the last arc is not the mate of the one before, and no self arc
+        graph.arcs[8_191] = (0, 1);
         owed(&programs.graph(&graph.file())?, refusal_line(10))?;
         owed(&programs.check(&graph.file(), &answer)?, refusal_line(10))?;
+        // and from a node to itself
+        graph.arcs[8_191].0 = graph.arcs[8_191].1;
+        owed(&programs.graph(&graph.file())?, refusal_line(SELF_ARC))?;
+        owed(&programs.check(&graph.file(), &answer)?, refusal_line(SELF_ARC))?;
     }
     let fits = some_fits(random, 127, 3_900);
     let lit = nearly_largest_lit(127, &fits, 1);

@@ -3,6 +3,7 @@
 //!   number(), byte()      any number, any byte
 //!   below(n)              a number from 0 to n - 1
 //!   between(low, high)    a number from low to high, both included
+//!   another(low, high, n) the same, but not n, which is one of them
 //!   chance(percent)       true that often in a hundred
 //!   choose(list)          an element of a list
 //!   shuffle(list)         a list in another order
@@ -30,6 +31,11 @@ impl Random {
 
     pub fn between(&mut self, low: usize, high: usize) -> usize {
         low + self.below(high - low + 1)
+    }
+
+    pub fn another(&mut self, low: usize, high: usize, number: usize) -> usize {
+        let step = self.between(1, high - low);
+        low + (number - low + step) % (high - low + 1)
     }
 
     pub fn byte(&mut self) -> u8 {

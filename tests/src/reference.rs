@@ -4,7 +4,7 @@
 //!   Reached           a pairing that some searches have reached, their number, and the lanes at most still missing
 //!   Parts             the engine as a record of its parts
 //!   Parts::right      each part as the documents say
-//!   answer .. budget     those of them that wrong ones are made from
+//!   answer .. check   those of them that wrong ones are made from
 
 use crate::arc_matching;
 use crate::blossom;
@@ -37,8 +37,10 @@ pub struct Reached {
 pub type Reader<T> = Box<dyn Fn(&[u8]) -> Result<T, u8>>;
 pub type LookUp = Box<dyn Fn(&[u8], &[u8], Fit) -> Looked>;
 pub type Search = Box<dyn Fn(&Stock, u32) -> Reached>;
-/// By the engine's other parts.
+// by the engine's other parts
 pub type BudgetCall = Box<dyn Fn(&Parts, &[u8], u32, &mut [u8], &mut Tally) -> Searched>;
+pub type GraphCall = Box<dyn Fn(&Parts, &[u8], &mut [u8], &mut Tally) -> Told>;
+pub type Check = Box<dyn Fn(&Parts, &[u8], &[u8]) -> Verdict>;
 pub type CertificateReader = Box<dyn Fn(&Graph, &[u8]) -> Result<Certificate, u8>>;
 
 pub struct Parts {
@@ -62,8 +64,10 @@ pub struct Parts {
     /// what a stock comes to within a number of searches
     pub search: Search,
     pub reached_file: fn(&Reached) -> Vec<u8>,
-    /// the call with a budget, whole
+    // calls, whole: with a budget, of a graph, and the check
     pub budget: BudgetCall,
+    pub answer_graph: GraphCall,
+    pub check: Check,
 }
 
 impl Parts {
@@ -87,6 +91,8 @@ impl Parts {
             search: Box::new(search),
             reached_file: |reached| budget_file(&reached.pairs, reached.searches, reached.missing),
             budget: Box::new(budget),
+            answer_graph: Box::new(answer_graph),
+            check: Box::new(check),
         }
     }
 
@@ -178,18 +184,35 @@ pub fn budget(parts: &Parts, file: &[u8], most: u32, out: &mut [u8], tally: &mut
     Searched { told, searches }
 }
 
+pub fn answer_graph(parts: &Parts, file: &[u8], out: &mut [u8], tally: &mut Tally) -> Told {
+    let graph = match parts.read(&parts.read_graph, file, out) {
+        Err(number) => return parts.refusal(number, out, tally),
+        Ok(graph) => graph,
+    };
+    let answer = (parts.answer)(&graph);
+    match answer {
+        GraphAnswer::Path(_) => tally.paths = (parts.raise)(tally.paths),
+        GraphAnswer::Barrier(_) => tally.barriers = (parts.raise)(tally.barriers),
+    }
+    (parts.write)(&(parts.ends)(file, answer.file()), out)
+}
+
+/// The graph's questions, then the certificate's.
+pub fn check(parts: &Parts, graph: &[u8], certificate: &[u8]) -> Verdict {
+    let graph = match (parts.read_graph)(graph) {
+        Err(number) => return Verdict::Refused(number),
+        Ok(graph) => graph,
+    };
+    match (parts.read_certificate)(&graph, certificate) {
+        Err(number) => Verdict::Refused(number + parts.added_for_certificates),
+        Ok(certificate) if (parts.holds)(&graph, &certificate) => Verdict::Yes,
+        Ok(_) => Verdict::No,
+    }
+}
+
 impl Engine for Parts {
     fn answer_graph(&self, file: &[u8], out: &mut [u8], tally: &mut Tally) -> Told {
-        let graph = match self.read(&self.read_graph, file, out) {
-            Err(number) => return self.refusal(number, out, tally),
-            Ok(graph) => graph,
-        };
-        let answer = (self.answer)(&graph);
-        match answer {
-            GraphAnswer::Path(_) => tally.paths = (self.raise)(tally.paths),
-            GraphAnswer::Barrier(_) => tally.barriers = (self.raise)(tally.barriers),
-        }
-        (self.write)(&(self.ends)(file, answer.file()), out)
+        (self.answer_graph)(self, file, out, tally)
     }
 
     fn plan(&self, file: &[u8], out: &mut [u8], tally: &mut Tally) -> Told {
@@ -208,15 +231,7 @@ impl Engine for Parts {
     }
 
     fn check(&self, graph: &[u8], certificate: &[u8]) -> Verdict {
-        let graph = match (self.read_graph)(graph) {
-            Err(number) => return Verdict::Refused(number),
-            Ok(graph) => graph,
-        };
-        match (self.read_certificate)(&graph, certificate) {
-            Err(number) => Verdict::Refused(number + self.added_for_certificates),
-            Ok(certificate) if (self.holds)(&graph, &certificate) => Verdict::Yes,
-            Ok(_) => Verdict::No,
-        }
+        (self.check)(self, graph, certificate)
     }
 
     fn look_up(&self, firsts: &[u8], seconds: &[u8], sought: Fit) -> Looked {

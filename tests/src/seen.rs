@@ -4,19 +4,24 @@
 //!   Sought      where a pair stands that is looked up, and in which list of fits
 //!   LitPair     where the lit pairs of a stock stand among its fits, those that are fits and those that are none
 //!   Budget      where a budget ends the searches, what it leaves missing, and of which stock
+//!   SelfArc     where a graph's self arcs stand, at which nodes, and beside what
+//!   Reading     the calls that read graphs
 //!   Seen        files, calls, and calls by what they came to, those on files with CR LF also by themselves; stocks by isolated cameras and
-//!               by lit pairs; look-ups by what was sought; calls with a budget by what they came to and by what refused them
+//!               by lit pairs; look-ups by what was sought; calls with a budget by what they came to and by what refused them; graphs by
+//!               self arcs, and calls on those by what refused them
 //!   never_met   what of all that calls can come to was not met
 //!   too_rare    where isolated cameras stood in too few stocks
 //!   too_few_look_ups, too_few_lit_pairs, too_few_budgets    what was looked up too seldom; which lit pairs or budgets were met too seldom
 //!   never_refused    which questions never refused a budget, alone or with each later one
+//!   too_few_self_arcs    which self arcs were met too seldom
+//!   never_refused_self_arcs    where 16 never refused a call, alone or with 10, or no earlier question refused a graph with self arcs
 
 use crate::engine::Fit;
 use crate::fit_lists::{rises, MOST_FITS};
 use crate::frames::{Pair, Text, BUDGET};
-use crate::graph_trial::{CERTIFICATE_QUESTIONS, GRAPH_QUESTIONS};
-use crate::line_ends::CR_LF;
-use crate::stock_trial::{no_camera_twice, Stock, STOCK_QUESTIONS};
+use crate::graph_trial::{is_self_arc, mate, mate_of, Graph, CERTIFICATE_QUESTIONS, GRAPH_QUESTIONS, MOST_ARCS, SELF_ARC};
+use crate::line_ends::{ends_of, has_cr_lf, Ends};
+use crate::stock_trial::{any_twice, no_camera_twice, Stock, STOCK_QUESTIONS};
 use crate::truth::{numbers_within, Numbers, MOST_SEARCHES, OVER_BUDGET};
 use std::collections::{BTreeMap, BTreeSet};
 use std::fmt;
@@ -135,11 +140,6 @@ fn sought_kinds(fits: &[Fit], one_length: bool, sought: Fit) -> Vec<Sought> {
     let (smaller, equal, larger) = sides(fits.iter().copied(), sought);
     let (first_smaller, same_first, first_larger) = sides(fits.iter().map(|fit| fit.0), sought.0);
     let of_first = sides(fits.iter().filter(|fit| fit.0 == sought.0).copied(), sought);
-    let repeats = || {
-        let mut ordered = fits.to_vec();
-        ordered.sort_unstable();
-        ordered.windows(2).any(|two| two[0] == two[1])
-    };
     let is = |kind: &Sought| match kind {
         Sought::NoFits => fits.is_empty(),
         Sought::OneFit => fits.len() == 1,
@@ -158,7 +158,7 @@ fn sought_kinds(fits: &[Fit], one_length: bool, sought: Fit) -> Vec<Sought> {
         Sought::Itself => sought.0 == sought.1,
         Sought::Past255 => rising && fits.get(255).is_some_and(|fit| *fit < sought),
         Sought::NotRising => !rising,
-        Sought::Repeats => !rising && repeats(),
+        Sought::Repeats => !rising && any_twice(fits.iter().copied()),
         Sought::OtherLengths => !one_length,
     };
     ALL_SOUGHT.into_iter().filter(is).collect()
@@ -345,7 +345,129 @@ fn budget_refusals() -> Vec<(u8, u8)> {
         .collect()
 }
 
-/// What is sought, which pairs are lit and what a budget comes to is to be met that often.
+#[derive(Clone, Copy, Debug, PartialEq, Eq, PartialOrd, Ord)]
+pub enum SelfArc {
+    // among the arcs
+    OfTwoArcs,
+    FirstArc,
+    MiddleArc,
+    LastArc,
+    EveryArc,
+    /// more than two
+    Several,
+    OfMostArcs,
+    /// in the second half of them
+    OfMostArcsLate,
+    // with its mate, as the line of the same two, or not
+    WithMate,
+    EvenAlone,
+    OddAlone,
+    TwiceTheSame,
+    // by the node
+    AtSource,
+    AtSourceMate,
+    AtZero,
+    AtHighest,
+    Elsewhere,
+    From128,
+    // beside others
+    BesideParallels,
+    BesideArcToMate,
+    /// at a node that no other arc has
+    AtLoneNode,
+}
+
+const ALL_SELF_ARCS: [SelfArc; 21] = [
+    SelfArc::OfTwoArcs,
+    SelfArc::FirstArc,
+    SelfArc::MiddleArc,
+    SelfArc::LastArc,
+    SelfArc::EveryArc,
+    SelfArc::Several,
+    SelfArc::OfMostArcs,
+    SelfArc::OfMostArcsLate,
+    SelfArc::WithMate,
+    SelfArc::EvenAlone,
+    SelfArc::OddAlone,
+    SelfArc::TwiceTheSame,
+    SelfArc::AtSource,
+    SelfArc::AtSourceMate,
+    SelfArc::AtZero,
+    SelfArc::AtHighest,
+    SelfArc::Elsewhere,
+    SelfArc::From128,
+    SelfArc::BesideParallels,
+    SelfArc::BesideArcToMate,
+    SelfArc::AtLoneNode,
+];
+
+/// Of a graph that no question before 16 refuses.
+fn self_arc_kinds(graph: &Graph) -> Vec<SelfArc> {
+    let Graph { source, arcs, .. } = graph;
+    let (most, last) = (arcs.len() == MOST_ARCS, arcs.len().saturating_sub(1));
+    let places: Vec<usize> = (0..arcs.len()).filter(|place| is_self_arc(&arcs[*place])).collect();
+    let alone = |parity: usize| places.iter().any(|place| place % 2 == parity && !is_self_arc(&arcs[mate(*place)]));
+    let any_place = |test: &dyn Fn(usize) -> bool| places.iter().any(|place| test(*place));
+    let any_node = |test: &dyn Fn(usize) -> bool| any_place(&|place| test(arcs[place].0));
+    let special = [*source, mate(*source), 0, graph.nodes() - 1];
+    let others = || arcs.iter().step_by(2).filter(|arc| !is_self_arc(arc));
+    let is = |kind: &SelfArc| match kind {
+        SelfArc::OfTwoArcs => arcs.len() == 2,
+        SelfArc::FirstArc => arcs.len() > 2 && places[0] == 0,
+        SelfArc::MiddleArc => any_place(&|place| place > 1 && place + 1 < last),
+        SelfArc::LastArc => arcs.len() > 2 && places.contains(&last),
+        SelfArc::EveryArc => places.len() == arcs.len(),
+        SelfArc::Several => places.len() > 2,
+        SelfArc::OfMostArcs => most,
+        SelfArc::OfMostArcsLate => most && places[0] >= MOST_ARCS / 2,
+        SelfArc::WithMate => any_place(&|place| arcs[mate(place)] == mate_of(arcs[place])),
+        SelfArc::EvenAlone => alone(0),
+        SelfArc::OddAlone => alone(1),
+        SelfArc::TwiceTheSame => any_place(&|place| arcs[mate(place)] == arcs[place]),
+        SelfArc::AtSource => any_node(&|node| node == special[0]),
+        SelfArc::AtSourceMate => any_node(&|node| node == special[1]),
+        SelfArc::AtZero => any_node(&|node| node == special[2]),
+        SelfArc::AtHighest => any_node(&|node| node == special[3]),
+        SelfArc::Elsewhere => any_node(&|node| !special.contains(&node)),
+        SelfArc::From128 => any_node(&|node| node >= 128),
+        SelfArc::BesideParallels => any_twice(others()),
+        SelfArc::BesideArcToMate => others().any(|(tail, head)| *head == mate(*tail)),
+        SelfArc::AtLoneNode => any_node(&|node| others().all(|(tail, head)| ![*tail, *head].contains(&node))),
+    };
+    ALL_SELF_ARCS.into_iter().filter(is).collect()
+}
+
+#[derive(Clone, Copy, Debug, PartialEq, Eq, PartialOrd, Ord)]
+pub enum Reading {
+    Graph,
+    Check,
+}
+
+/// Which call, on a file with which ends; the first question answered no, and a later one, 0 where it is alone.
+pub type SelfArcRefusal = (Reading, Ends, u8, u8);
+
+fn self_arc_refusals() -> Vec<SelfArcRefusal> {
+    let of_file = GRAPH_QUESTIONS.into_iter().take_while(|question| *question != SELF_ARC);
+    let with_room: Vec<u8> = [1].into_iter().chain(of_file).collect();
+    let mut all = Vec::new();
+    for (reading, earlier) in [(Reading::Graph, &with_room[..]), (Reading::Check, &with_room[1..])] {
+        for ends in [Ends::Lf, Ends::CrLf, Ends::Mixed] {
+            all.extend([0, 10].map(|later| (reading, ends, SELF_ARC, later)));
+            all.extend(earlier.iter().map(|first| (reading, ends, *first, SELF_ARC)));
+        }
+    }
+    all
+}
+
+/// Of the questions that a file fails, the others beside the one that was told, or 0 where it is alone.
+fn beside(told: u8, failing: &[u8]) -> Vec<u8> {
+    if failing == [told] {
+        return vec![0];
+    }
+    failing.iter().copied().filter(|question| *question != told).collect()
+}
+
+/// What is sought, which pairs are lit, what a budget comes to and which self arcs there are is to be met that often.
 const FEW: usize = 5;
 
 type Counts = BTreeMap<Came, usize>;
@@ -365,6 +487,8 @@ pub struct Seen {
     lit_pairs: BTreeMap<LitPair, usize>,
     budgets: BTreeMap<Budget, usize>,
     budget_refusals: BTreeMap<(u8, u8), usize>,
+    self_arcs: BTreeMap<SelfArc, usize>,
+    self_arc_refusals: BTreeMap<SelfArcRefusal, usize>,
 }
 
 impl Seen {
@@ -372,7 +496,7 @@ impl Seen {
     pub fn call(&mut self, files: &[&[u8]], came: Came) {
         self.calls += 1;
         *self.came.entry(came).or_default() += 1;
-        if files.iter().any(|file| file.windows(2).any(|two| two == CR_LF)) {
+        if files.iter().any(|file| has_cr_lf(file)) {
             *self.came_with_cr_lf.entry(came).or_default() += 1;
         }
     }
@@ -404,9 +528,21 @@ impl Seen {
 
     /// A call with a budget that fails these questions, and the number that the engine told: with each other one, or 0 where it is alone.
     pub fn budget_refusal(&mut self, told: u8, failing: &[u8]) {
-        let alone = (failing == [told]).then_some(0);
-        let others = failing.iter().copied().filter(|question| *question != told);
-        others.chain(alone).for_each(|other| *self.budget_refusals.entry((told, other)).or_default() += 1);
+        beside(told, failing).into_iter().for_each(|other| *self.budget_refusals.entry((told, other)).or_default() += 1);
+    }
+
+    /// A graph that no question before 16 refuses.
+    pub fn self_arcs(&mut self, graph: &Graph) {
+        self_arc_kinds(graph).into_iter().for_each(|kind| *self.self_arcs.entry(kind).or_default() += 1);
+    }
+
+    /// A call on a graph file with self arcs that fails these questions, and the number that the engine told.
+    pub fn self_arc_refusal(&mut self, reading: Reading, file: &[u8], told: u8, failing: &[u8]) {
+        let Some(ends) = ends_of(file) else {
+            return;
+        };
+        let each = beside(told, failing).into_iter().map(|other| (reading, ends, told, other));
+        each.for_each(|refusal| *self.self_arc_refusals.entry(refusal).or_default() += 1);
     }
 
     pub fn too_few_budgets(&self) -> Vec<Budget> {
@@ -415,6 +551,14 @@ impl Seen {
 
     pub fn never_refused(&self) -> Vec<(u8, u8)> {
         budget_refusals().into_iter().filter(|refusal| !self.budget_refusals.contains_key(refusal)).collect()
+    }
+
+    pub fn too_few_self_arcs(&self) -> Vec<SelfArc> {
+        too_few(&ALL_SELF_ARCS, &self.self_arcs)
+    }
+
+    pub fn never_refused_self_arcs(&self) -> Vec<SelfArcRefusal> {
+        self_arc_refusals().into_iter().filter(|refusal| !self.self_arc_refusals.contains_key(refusal)).collect()
     }
 
     pub fn too_few_look_ups(&self) -> Vec<Sought> {
@@ -442,6 +586,8 @@ impl Seen {
         add_counts(&mut self.lit_pairs, &other.lit_pairs);
         add_counts(&mut self.budgets, &other.budgets);
         add_counts(&mut self.budget_refusals, &other.budget_refusals);
+        add_counts(&mut self.self_arcs, &other.self_arcs);
+        add_counts(&mut self.self_arc_refusals, &other.self_arc_refusals);
     }
 
     /// In any files, and in files with CR LF.
@@ -477,6 +623,7 @@ impl fmt::Display for Seen {
         writeln!(out, "isolated cameras in {} stocks: {}", self.stocks, told(&self.isolated))?;
         writeln!(out, "lit pairs: {}", told(&self.lit_pairs))?;
         writeln!(out, "budgets: {}", told(&self.budgets))?;
+        writeln!(out, "self arcs: {}", told(&self.self_arcs))?;
         write!(out, "{} look-ups: {}", self.look_ups, told(&self.sought))
     }
 }

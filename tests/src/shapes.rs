@@ -14,7 +14,7 @@
 use crate::engine::Verdict;
 use crate::frames::{barrier_file, kind_of, path_file, Form, Pair, Text, BARRIER, PATH};
 use crate::generate::stock_of;
-use crate::graph_trial::{check, mate, read_certificate, Certificate, Graph, A, A_MATES, FIRST_X, M};
+use crate::graph_trial::{check, mate, mate_of, read_certificate, Certificate, Graph, A, A_MATES, FIRST_X, M};
 use crate::judge::shown;
 use crate::stock_trial::{Standing, Stock, ISOLATED};
 
@@ -47,7 +47,7 @@ impl Known {
 // ---- graphs
 
 pub fn with_mates(pairs: usize, single: &[&[Pair]]) -> Graph {
-    let arcs = single.concat().iter().flat_map(|(tail, head)| [(*tail, *head), (mate(*head), mate(*tail))]).collect();
+    let arcs = single.concat().into_iter().flat_map(|arc| [arc, mate_of(arc)]).collect();
     Graph { pairs, source: 0, arcs }
 }
 

@@ -1,6 +1,7 @@
 //! Stocks by trial (document 01, "Stocks", "Questions put to a call"; document 02, L2).
 //!   Stock                 number of cameras, fits, lit pairs; which cameras are isolated
 //!   ask, read             one question put to a stock file; all in order
+//!   any_twice             two of some things are the same
 //!   each_pairing, all_pairings    every pairing of the fits, once
 //!   Standing              greatest number of pairs and every camera's mark
 //!   standing              it, by all pairings
@@ -43,11 +44,14 @@ pub fn rises(pairs: &[Pair]) -> bool {
 }
 
 pub fn no_camera_twice(pairs: &[Pair]) -> bool {
-    let mut cameras: Vec<usize> = pairs.iter().flat_map(|(first, second)| [*first, *second]).collect();
-    let all = cameras.len();
-    cameras.sort_unstable();
-    cameras.dedup();
-    cameras.len() == all
+    !any_twice(pairs.iter().flat_map(|(first, second)| [*first, *second]))
+}
+
+/// Two of all are the same.
+pub fn any_twice<T: Ord>(all: impl Iterator<Item = T>) -> bool {
+    let mut ordered: Vec<T> = all.collect();
+    ordered.sort_unstable();
+    ordered.windows(2).any(|two| two[0] == two[1])
 }
 
 pub fn includes(pairs: &[Pair], camera: usize) -> bool {

@@ -58,8 +58,8 @@ impl Summary<'_> {
         }
     }
 
-    /// Every kind of answer and every refusal was met, in files with CR LF too; isolated cameras, lit pairs and look-ups in every place;
-    /// every outcome and every refusal of a budget.
+    /// Every kind of answer and every refusal was met, in files with CR LF too; isolated cameras, lit pairs, self arcs and look-ups in every
+    /// place; every outcome and every refusal of a budget; question 16 by both calls with all line ends.
     fn try_coverage(&mut self) {
         let kinds = ["every kind of answer and every refusal was met", "the same on files with CR LF"];
         for (name, missing) in kinds.into_iter().zip(self.seen.never_met()) {
@@ -78,6 +78,11 @@ impl Summary<'_> {
         self.tell(
             "budgets were refused by every question, alone and with each later one",
             none_missing(&self.seen.never_refused(), "never met (first, later)"),
+        );
+        self.tell("self arcs were met in every place", none_missing(&self.seen.too_few_self_arcs(), "too few"));
+        self.tell(
+            "question 16 refused both calls, alone, with 10 and after each earlier one, with all line ends",
+            none_missing(&self.seen.never_refused_self_arcs(), "never met (call, ends, first, later)"),
         );
     }
 

@@ -3,16 +3,16 @@
 //!   Named       what is wrong, and the engine
 //!   improve_in_tree    a search without blossoms
 //! First those that document 01 shuts out, then its traps, then slips of other kinds (slips.rs), then those in line ends
-//! (wrong_line_ends.rs), in the marks of cameras without a fit (wrong_isolated.rs), in look-ups and question 13 (wrong_look_ups.rs), and
-//! in the call that stops after so many searches (wrong_budgets.rs).
+//! (wrong_line_ends.rs), in the marks of cameras without a fit (wrong_isolated.rs), in look-ups and question 13 (wrong_look_ups.rs), in
+//! the call that stops after so many searches (wrong_budgets.rs), and in question 16 (wrong_self_arcs.rs).
 
 use crate::blossom::{augment, neighbours, pairs, partners, Partners};
 use crate::frames::Pair;
-use crate::graph_trial::{canonical, is_barrier, is_wanted, mate, Certificate, Graph};
+use crate::graph_trial::{canonical, is_barrier, is_wanted, mate, mate_of, Certificate, Graph};
 use crate::reference::{self, GraphAnswer, Parts};
 use crate::slips;
 use crate::stock_trial::{self, Standing, Stock};
-use crate::{wrong_budgets, wrong_isolated, wrong_line_ends, wrong_look_ups};
+use crate::{wrong_budgets, wrong_isolated, wrong_line_ends, wrong_look_ups, wrong_self_arcs};
 use std::collections::VecDeque;
 
 pub type Named = (String, Parts);
@@ -27,6 +27,7 @@ pub fn engines() -> Vec<Named> {
     all.extend(wrong_isolated::engines());
     all.extend(wrong_look_ups::engines());
     all.extend(wrong_budgets::engines());
+    all.extend(wrong_self_arcs::engines());
     all
 }
 
@@ -150,9 +151,8 @@ fn one_of_two_mates(graph: &Graph) -> GraphAnswer {
 }
 
 fn mates_by_ends(graph: &Graph, certificate: &Certificate) -> bool {
-    let turned = |(tail, head): Pair| (mate(head), mate(tail));
     let by_ends = |arcs: &Vec<usize>| {
-        arcs.iter().any(|one| arcs.iter().any(|other| one != other && graph.arcs[*one] == turned(graph.arcs[*other])))
+        arcs.iter().any(|one| arcs.iter().any(|other| one != other && graph.arcs[*one] == mate_of(graph.arcs[*other])))
     };
     match certificate {
         Certificate::Path(arcs) => is_wanted(graph, arcs) && !by_ends(arcs),

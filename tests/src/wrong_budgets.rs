@@ -5,6 +5,7 @@
 //!   calling, granting      another call; the right one with another number of searches
 //!   after, telling, counted    the right call, and something done after it, or another number of searches told, or counted otherwise
 //!   asking, asked_after    question 15 asked otherwise, or put after one of the stock's
+//!   raise                  a count raised that many times
 //! First those that count searches wrongly, then in missing lanes, in where the searches end, in pairs, in frames, in question 15, in the
 //! tally and in the buffer.
 
@@ -669,8 +670,7 @@ fn asked_after(question: u8) -> Parts {
 
 // ---- the tally
 
-/// A count raised that many times.
-fn raise(count: &mut u32, times: u32) {
+pub fn raise(count: &mut u32, times: u32) {
     *count = count.saturating_add(times);
 }
 

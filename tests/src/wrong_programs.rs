@@ -5,6 +5,7 @@
 
 use crate::engine::Engine;
 use crate::frames::{path_file, CR, GREATEST_FILE, LF};
+use crate::graph_trial::{is_self_arc, read_in_order, Graph, SELF_ARC};
 use crate::judge::Call;
 use crate::line_ends::{cr_lf, replaced, CR_LF};
 use crate::prints::{refusal_line, BUDGET_PROGRAM, CHECK_PROGRAM, GRAPH_PROGRAM, PLAN_PROGRAM, SHEET_PROGRAM};
@@ -24,7 +25,7 @@ const ANSWERING: [&str; 4] = [GRAPH_PROGRAM, PLAN_PROGRAM, SHEET_PROGRAM, BUDGET
 type Slip = (&'static str, fn(Manner) -> Manner);
 
 pub fn all() -> Vec<WrongProgram> {
-    let lists: [(&[&'static str], &[Slip]); 13] = [
+    let lists: [(&[&'static str], &[Slip]); 15] = [
         (&EACH, &READING),
         (&EACH, &PRINTING),
         (&ANSWERING, &ANSWERS),
@@ -36,6 +37,11 @@ pub fn all() -> Vec<WrongProgram> {
         (&[BUDGET_PROGRAM], &OF_WORDS),
         (&[BUDGET_PROGRAM], &OF_NUMBERS),
         (&[BUDGET_PROGRAM], &OF_BUDGETS),
+        (&[GRAPH_PROGRAM, CHECK_PROGRAM], &OF_SELF_ARCS),
+        (
+            &[CHECK_PROGRAM],
+            &[("prints 7E38 for 7E10", |right| Manner { refusal: |number| told_as(number, SELF_ARC, 40 + SELF_ARC), ..right })],
+        ),
         (&[CHECK_PROGRAM], &OF_CHECK),
         (&[CHECK_PROGRAM], &UNOPENED),
     ];
@@ -359,6 +365,41 @@ fn replaced_kind(text: Vec<u8>, kind: &[u8], other: &[u8]) -> Vec<u8> {
 
 fn without_header(text: Vec<u8>) -> Vec<u8> {
     text.split_inclusive(|byte| *byte == LF).filter(|line| !line.starts_with(b"61")).flatten().copied().collect()
+}
+
+// ---- self arcs
+
+const OF_SELF_ARCS: [Slip; 9] = [
+    ("prints 7E16 for 7E10", |right| Manner { refusal: |number| told_as(number, SELF_ARC, 0x16), ..right }),
+    ("prints 7E0A for 7E10", |right| Manner { refusal: |number| told_as(number, SELF_ARC, 10), ..right }),
+    ("prints 7E0F for 7E10", |right| Manner { refusal: |number| told_as(number, SELF_ARC, 15), ..right }),
+    ("prints 7E09 for 7E10", |right| Manner { refusal: |number| told_as(number, SELF_ARC, 9), ..right }),
+    ("prints 7E10 for 7E0A", |right| Manner { refusal: |number| told_as(number, 10, SELF_ARC), ..right }),
+    ("prints nothing for 7E10", |right| Manner {
+        refusal: |number| if number == SELF_ARC { Vec::new() } else { refusal_line(number) },
+        ..right
+    }),
+    ("prints one digit more for numbers from 16 on", |right| Manner {
+        refusal: |number| if number < SELF_ARC { refusal_line(number) } else { format!("7E{number:03X}\n").into_bytes() },
+        ..right
+    }),
+    ("prints the lower digit alone", |right| Manner { refusal: |number| refusal_line(number % 16), ..right }),
+    ("reads over self arcs", |right| Manner { read: |_, input| changed(input, without_self_arcs), ..right }),
+];
+
+fn told_as(number: u8, told: u8, other: u8) -> Vec<u8> {
+    refusal_line(if number == told { other } else { number })
+}
+
+/// A graph file without the lines of self arcs, its end frame counting the others; another file as it is.
+fn without_self_arcs(bytes: Vec<u8>) -> Vec<u8> {
+    match read_in_order(&bytes, &[2, 3, 4, 5, 6, 7]) {
+        Ok(graph) => {
+            let arcs = graph.arcs.iter().copied().filter(|arc| !is_self_arc(arc)).collect();
+            Graph { arcs, ..graph }.file()
+        }
+        Err(_) => bytes,
+    }
 }
 
 // ---- the check

@@ -5,14 +5,14 @@
 --   getD-default                     within the list the default is not read
 --   any-some, some-any                any f xs: some element has f
 --   all-each, each-all                all f xs: each element has f
---   all-getD, getD-all                the same by index
+--   all-getD, getD-all, getD-fails    the same by index, and where some element has it not
 --   any-getD, getD-any                and any f xs by index
 --   all-take, all-drop, all-append    all f of a part of a list, and of lists joined
 --   among-in, in-among                among x xs: x is an element
 --   not-among-out, out-not-among      and where it is not
 use mathlib.Core.Path.{_≡_, refl, sym, ap}
 use mathlib.Core.Logic.{_⊎_, inl, inr, ⊎-elim}
-use mathlib.Core.Bool.{Bool, true, not}
+use mathlib.Core.Bool.{Bool, true, false, not}
 use mathlib.Core.List.{List, [], _∷_, _++_}
 use Prim.Native.Nat.{ℕ, zero, suc, _<_}
 use native.Mathlib.Omega.{arith}
@@ -98,6 +98,14 @@ pub getD-all : {A : Type 0} (f : A → Bool) (xs : List A) (d : A) → ((i : ℕ
 unfolding all
 getD-all f [] d h = refl
 getD-all f (x ∷ xs) d h = and-both (f x) (all f xs) (h 0 (omega arith)) (getD-all f xs d (λ i l. h (suc i) (omega arith)))
+
+pub getD-fails : {A : Type 0} (f : A → Bool) (xs : List A) (d : A) → all f xs ≡ false → (i : ℕ) × (i < length xs) × (f (getD xs i d) ≡ false)
+unfolding all
+getD-fails f [] d h = true-false refl h
+getD-fails f (x ∷ xs) d h =
+    by-test (f x)
+    (λ t. let r = getD-fails f xs d (rw t at h) in (suc (r .0), omega (arith, r .1), r .2))
+    (λ t. (0, omega arith, t))
 
 pub any-getD : {A : Type 0} (f : A → Bool) (xs : List A) (d : A) → any f xs ≡ true → (i : ℕ) × (i < length xs) × (f (getD xs i d) ≡ true)
 unfolding any

@@ -1,4 +1,4 @@
--- What the questions settle of a file that none of them refuses.
+-- What the questions settle of a file that none of them refuses; of a graph, document 03's, without 16.
 --   accepted-graph                the graph is well formed
 --   graph-few                     it has at most 128 mate pairs and 8,192 arcs
 --   accepted-stock                the stock is well formed
@@ -21,14 +21,14 @@ use Rattle.frames.proofs.Questions.{accepted}
 use Rattle.skew.specs.Graph.{nodes, arcAt}
 use Rattle.skew.specs.Paths.{WellFormed}
 use Rattle.matching.specs.Promise.{WellFormedStock}
-use Rattle.files.specs.GraphFile.{graphIn, arcNamed, graphFault, graphQuestions}
+use Rattle.files.specs.GraphFile.{graphIn, arcNamed, basicGraphFault, basicQuestions}
 use Rattle.files.specs.StockFile.{stockIn, stockFault, stockQuestions}
-use Rattle.files.proofs.Asked.{graph-asked, stock-asked}
+use Rattle.files.proofs.Asked.{basic-asked, stock-asked}
 
 -- GRAPHS
-module _ (f : List ℕ) (e : graphFault f ≡ 0) where
-  graph-yes : (n : ℕ) → answerTo n (graphQuestions f) ≡ true
-  graph-yes n = accepted n (graphQuestions f) refl (sym (graph-asked f) ∙ e)
+module _ (f : List ℕ) (e : basicGraphFault f ≡ 0) where
+  graph-yes : (n : ℕ) → answerTo n (basicQuestions f) ≡ true
+  graph-yes n = accepted n (basicQuestions f) refl (sym (basic-asked f) ∙ e)
 
   pub accepted-graph : WellFormed (graphIn f)
   accepted-graph =

@@ -14,6 +14,7 @@ use Rattle.skew.specs.Graph.{Graph}
 use Rattle.skew.specs.Paths.{WellFormed}
 use Rattle.files.specs.GraphFile.{graphIn, graphFault}
 use Rattle.files.specs.Readers.{GraphHeld}
+use Rattle.files.proofs.SelfArcs.{accepted-is}
 use Rattle.files.proofs.AcceptedFiles.{accepted-graph, graph-few}
 
 graph-same : {p q s t : ℕ} {xs ys : List Pair} → p ≡ q → s ≡ t → xs ≡ ys →
@@ -29,11 +30,12 @@ module _ {f ts hs : List ℕ} {p s n : ℕ} (g : GraphHeld f ts hs p s n) where
 
   pub held-table : graphFault f ≡ 0 → ArcTable p s (take n ts) (take n hs)
   held-table e =
-      let few = graph-few f e in
+      let basic = accepted-is f .0 e .0 in
+      let few = graph-few f basic in
       let a : length (take n ts) ≡ length (graphIn f .arcs) =
       sym (zip-length (take n ts) (take n hs) as-long) ∙ ap (λ (x : Graph). length (x .arcs)) held-graph in
       record {
-        well-formed = subst (λ (x : Graph). WellFormed x) (sym held-graph) (accepted-graph f e);
+        well-formed = subst (λ (x : Graph). WellFormed x) (sym held-graph) (accepted-graph f basic);
         as-long = as-long;
         pairs-few = omega (arith, g .pairsAre, few .0);
         arcs-few = omega (arith, few .1);

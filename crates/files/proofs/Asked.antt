@@ -1,5 +1,7 @@
--- Document 03's chains of questions, as lists: each fault is the number of the first question of its list that is answered no.
+-- The chains of questions, document 03's and that of a graph with question 16, as lists: each fault is the number of the first question of its list that
+-- is answered no.
 --   graph-asked, stock-asked, path-asked, barrier-asked     one for each kind of file
+--   basic-asked                                             and document 03's own for a graph, without 16
 --   graph-refusal, stock-refusal                            a refusal is 0 or one of the list's numbers: what holds of those holds of it
 use mathlib.Core.Path.{_≡_, refl}
 use mathlib.Core.Bool.{Bool, true}
@@ -17,7 +19,7 @@ use Rattle.frames.proofs.Questions.{chain-first, or-first, refusal-is}
 use Rattle.frames.proofs.ShapeFaults.{shape-asked}
 use Rattle.skew.specs.Graph.{Graph, nodes}
 use Rattle.files.specs.GraphFile as graph
-use Rattle.files.specs.GraphFile.{graphIn, graphFault, arcsFit, arcsQuestions, graphQuestions}
+use Rattle.files.specs.GraphFile.{graphIn, graphFault, basicGraphFault, arcsFit, arcsQuestions, graphQuestions, basicArcsQuestions, basicQuestions}
 use Rattle.files.specs.StockFile as stock
 use Rattle.files.specs.StockFile.{stockIn, stockFault, pairsQuestions, stockQuestions}
 use Rattle.files.specs.CertificateFile.{pathArcs, pathFault, pathQuestions, namesInOrder, barrierFault, barrierQuestions}
@@ -25,6 +27,11 @@ use Rattle.files.specs.CertificateFile.{pathArcs, pathFault, pathQuestio
 pub graph-asked : (f : List ℕ) → graphFault f ≡ firstNo (graphQuestions f)
 graph-asked f =
     let later = ask 8 (arcsFit (length (graphIn f .arcs))) ∷ arcsQuestions (nodes (graphIn f)) (graphIn f .arcs) in
+    or-first (shapeQuestions graphForm f (graph.headerFits f)) later refl (shape-asked graphForm f (graph.headerFits f)) (chain-first later refl)
+
+pub basic-asked : (f : List ℕ) → basicGraphFault f ≡ firstNo (basicQuestions f)
+basic-asked f =
+    let later = ask 8 (arcsFit (length (graphIn f .arcs))) ∷ basicArcsQuestions (nodes (graphIn f)) (graphIn f .arcs) in
     or-first (shapeQuestions graphForm f (graph.headerFits f)) later refl (shape-asked graphForm f (graph.headerFits f)) (chain-first later refl)
 
 pub stock-asked : (f : List ℕ) → stockFault f ≡ firstNo (stockQuestions f)

@@ -1,12 +1,13 @@
 -- Laws by subject; each file stands on those above it.
 --   Scans            a list asked from its front
 --   Tables           pairs that stand in two slices
---   PairScans        questions 9 to 13 put to such pairs from the front
+--   PairScans        questions 9 to 13 and 16 put to such pairs from the front
 --   SharedCameras    question 14, with a table of marks
 --   AnswerLines      answers written line by line
 --   AnswerEnds       an answer is whole lines, each ended by a line feed alone
---   Asked            document 03's chains of questions, as lists
+--   Asked            the chains of questions, as lists
 --   SameLines        files of the same lines, whichever ends the lines have
+--   SelfArcs         graph files where an arc may lead from a node to itself
 --   AcceptedFiles    what the questions settle of a file
 --   SheetBytes       what a standing sheet's bytes tell
 --   BudgetBytes      what a budget's bytes tell
@@ -23,6 +24,7 @@ pub mod AnswerLines
 pub mod AnswerEnds
 pub mod Asked
 pub mod SameLines
+pub mod SelfArcs
 pub mod AcceptedFiles
 pub mod SheetBytes
 pub mod BudgetBytes

@@ -1,5 +1,5 @@
 -- Questions put to pairs that stand in two slices, one pair after the other: what is asked of all pairs is what is asked from a place on.
---   named-, mates-, rise-, look-, order-    by question (9, 10, 11 and 12, the look-up of 13, 9 of a barrier)
+--   named-, ends-, mates-, rise-, look-, order-    by question (9, 16, 10, 11 and 12, the look-up of 13, 9 of a barrier)
 --   -step         the pair at the place passes, so that what is asked goes on behind it
 --   -first, -second, -turn, -stop   it does not, or it settles the question
 --   -last, -end   there is none left, or no next one
@@ -17,7 +17,7 @@ use lib.ListN.{getD, drop}
 use Rattle.formats.specs.Limits.{classMost}
 use Rattle.counting.specs.Tests.{all}
 use Rattle.counting.specs.Pairs.{Pair, pair, pairsOf, pairNamed}
-use Rattle.skew.specs.Graph.{mate, matesFit}
+use Rattle.skew.specs.Graph.{mate, matesFit, hasTwoEnds}
 use Rattle.matching.specs.Stock.{samePair, hasPair, pairBefore, pairsRise}
 use Rattle.matching.specs.Pairs.{Before}
 use Rattle.matching.specs.LookUp.{lookedAt, looked, isFound, EqualOrLarger}
@@ -79,6 +79,12 @@ module _ {n : ℕ} {us vs : List ℕ} (r : Holds n us vs) (i : ℕ) where
 
       pub named-second : b ≤ getD vs i 0 → all (pairNamed b) (from i) ≡ false
       named-second p = all-stop (pairNamed b) (rw (le-ltb _ _ p) (and-false (ltb (getD us i 0) b)))
+
+    pub ends-step : (getD us i 0 ≡ getD vs i 0 → ⊥) → all hasTwoEnds (from i) ≡ all hasTwoEnds (from (i + 1))
+    ends-step p = all-step hasTwoEnds (rw (ne-eqb _ _ p))
+
+    pub ends-stop : getD us i 0 ≡ getD vs i 0 → all hasTwoEnds (from i) ≡ false
+    ends-stop p = all-stop hasTwoEnds (rw (eq-eqb _ _ p))
 
     pub look-step : (y : Pair) → Before x y →
         (isFound (from i) y ≡ isFound (from (i + 1)) y) × (looked (from i) y ≡ suc (looked (from (i + 1)) y))

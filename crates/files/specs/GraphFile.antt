@@ -1,11 +1,13 @@
--- Graph files (document 01, "Frames" and "Questions put to a call"; the definitions are document 03's).
+-- Graph files (document 01, "Frames" and "Questions put to a call"; the definitions are document 03's, with question 16 of document 02, L5).
 --   headerFits    question 5: mate pairs 1 to 128, the source a node
 --   graphIn       the graph that a file's frames say
 --   arcNamed      both ends of an arc exist
---   graphFault    questions 2 to 10: the number of the first answered no, 0 where there is none
+--   graphFault    questions 2 to 9, 16 and 10: the number of the first answered no, 0 where there is none
+--   basicGraphFault                 document 03's graphFault, which does not ask 16
 --   numbersFit, arcsFit             question 5 of two numbers, question 8 of a number of arcs
---   graphSized, arcsQuestions       questions 2 to 8, and 9 and 10 of arcs between so many nodes
+--   graphSized, arcsQuestions       questions 2 to 8, and 9, 16 and 10 of arcs between so many nodes
 --   graphQuestions                  the questions of graphFault, as a list
+--   basicArcsQuestions, basicQuestions     the same without 16: the questions of basicGraphFault
 --   arcsStored                      the arcs that a reader stores: the graph's where 2 to 8 are answered yes
 use mathlib.Core.Bool.{Bool, _&&_}
 use mathlib.Core.List.{List, [], _∷_, _++_}
@@ -19,7 +21,7 @@ use Rattle.counting.specs.Pairs.{Pair, pairNamed}
 use Rattle.frames.specs.Frames.{isIn, orElse, unless, hexAt, firstLine, bodyLines, shapeFault, graphForm, pairsIn}
 use Rattle.frames.specs.Questions.{Question, ask}
 use Rattle.frames.specs.Shape.{sizedQuestions}
-use Rattle.skew.specs.Graph.{Graph, nodes, matesFit}
+use Rattle.skew.specs.Graph.{Graph, nodes, matesFit, hasTwoEnds}
 use Rattle.files.specs.Tables.{stored}
 
 abbrev pub headerFits : (file : List ℕ) → Bool
@@ -36,9 +38,16 @@ abbrev pub graphFault : (file : List ℕ) → ℕ
 graphFault f =
     orElse (shapeFault graphForm f (headerFits f))
     (orElse (unless (eqb (length (graphIn f .arcs) % 2) 0 && leb (length (graphIn f .arcs)) arcsMost) 8)
+    (orElse (unless (all (arcNamed (graphIn f)) (graphIn f .arcs)) 9)
+    (orElse (unless (all hasTwoEnds (graphIn f .arcs)) 16) (unless (matesFit (graphIn f .arcs)) 10))))
+
+abbrev pub basicGraphFault : (file : List ℕ) → ℕ
+basicGraphFault f =
+    orElse (shapeFault graphForm f (headerFits f))
+    (orElse (unless (eqb (length (graphIn f .arcs) % 2) 0 && leb (length (graphIn f .arcs)) arcsMost) 8)
     (orElse (unless (all (arcNamed (graphIn f)) (graphIn f .arcs)) 9) (unless (matesFit (graphIn f .arcs)) 10)))
 
--- AS A LIST: 2 to 8, then the arcs are stored, then 9 and 10
+-- AS A LIST: 2 to 8, then the arcs are stored, then 9, 16 and 10
 abbrev pub numbersFit : (pairs source : ℕ) → Bool
 numbersFit p s = isIn 1 matePairsMost p && ltb s (2 * p)
 
@@ -49,10 +58,16 @@ abbrev pub graphSized : (file : List ℕ) → List Question
 graphSized f = sizedQuestions graphForm f (headerFits f) (arcsFit (length (graphIn f .arcs)))
 
 abbrev pub arcsQuestions : (nodes : ℕ) → List Pair → List Question
-arcsQuestions n xs = ask 9 (all (pairNamed n) xs) ∷ ask 10 (matesFit xs) ∷ []
+arcsQuestions n xs = ask 9 (all (pairNamed n) xs) ∷ ask 16 (all hasTwoEnds xs) ∷ ask 10 (matesFit xs) ∷ []
 
 abbrev pub graphQuestions : (file : List ℕ) → List Question
 graphQuestions f = graphSized f ++ arcsQuestions (nodes (graphIn f)) (graphIn f .arcs)
+
+abbrev pub basicArcsQuestions : (nodes : ℕ) → List Pair → List Question
+basicArcsQuestions n xs = ask 9 (all (pairNamed n) xs) ∷ ask 10 (matesFit xs) ∷ []
+
+abbrev pub basicQuestions : (file : List ℕ) → List Question
+basicQuestions f = graphSized f ++ basicArcsQuestions (nodes (graphIn f)) (graphIn f .arcs)
 
 abbrev pub arcsStored : (file : List ℕ) → List Pair
 arcsStored f = stored (graphSized f) (graphIn f .arcs)

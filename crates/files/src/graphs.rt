@@ -1,11 +1,12 @@
-// Graph files read: questions 2 to 10, and the arcs stored (document 01, "Questions put to a call").
+// Graph files read: questions 2 to 9, 16 and 10, and the arcs stored (document 01, "Questions put to a call"; 16: document 02, L5).
 //   Graph          a graph as it was read
 //   header_fits    question 5
-//   arcs_fault     questions 9 and 10
+//   arcs_fault     questions 9, 16 and 10
 //   told           the numbers beside a number of the questions
 //   read_graph     all of them, in order
 use crate::questions::are_mated;
 use crate::questions::are_named;
+use crate::questions::have_two_ends;
 use formats::kinds;
 use formats::limits::ARCS_MOST;
 use formats::limits::MATE_PAIRS_MOST;
@@ -42,13 +43,16 @@ fn header_fits(pairs: usize, source: usize) -> bool
     source < 2 * pairs
 }
 
-// 9 and 10, of arcs between so many nodes: the first answered no, or 0.
+// 9, 16 and 10, of arcs between so many nodes: the first answered no, or 0.
 fn arcs_fault(tails: &[u8], heads: &[u8], arcs: usize, nodes: usize) -> u8
     requires { ⌜ Holds arcs (now tails) (now heads) ⌝ }
     ensures { λ r. ⌜ r ≡ firstNo (arcsQuestions nodes (pairsOf arcs (now (tails .entry)) (now (heads .entry)))) ⌝ }
 {
     if !are_named(tails, heads, arcs, nodes) {
         return 9;
+    }
+    if !have_two_ends(tails, heads, arcs) {
+        return 16;
     }
     if !are_mated(tails, heads, arcs) {
         return 10;

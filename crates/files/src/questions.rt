@@ -1,6 +1,7 @@
-// Questions 9 to 14, put to the numbers of a file that stand in lent slices (document 01, "Questions put to a call"). Each function answers one
-// question, by document 03's test.
+// Questions 9 to 14 and 16, put to the numbers of a file that stand in lent slices (document 01, "Questions put to a call"; 16: document 02, L5). Each
+// function answers one question, by its test in the definitions.
 //   are_named, are_mated     9 and 10: every number exists; each odd-numbered arc is the mate of the one before
+//   have_two_ends            16: no arc leads from a node to itself
 //   pairs_rise               11 and 12: smaller camera first, rising strictly (comes_before)
 //   are_fits                 13: each lit pair is a fit, looked up among fits that rise
 //   none_shared              14: no camera in two pairs
@@ -16,7 +17,7 @@ ghost use lib.Dec.{ltb};
 ghost use lib.ListN.{length, take};
 ghost use Rattle.counting.specs.Tests.{all};
 ghost use Rattle.counting.specs.Pairs.{pair, pairsOf, pairNamed};
-ghost use Rattle.skew.specs.Graph.{matesFit};
+ghost use Rattle.skew.specs.Graph.{matesFit, hasTwoEnds};
 ghost use Rattle.matching.specs.Stock.{hasPair, noneShared, pairBefore, pairsRise};
 ghost use Rattle.files.specs.Tables.{Holds};
 ghost use Rattle.files.specs.CertificateFile.{namesInOrder};
@@ -33,6 +34,22 @@ pub fn are_named(firsts: &[u8], seconds: &[u8], count: usize, bound: usize) -> b
             return false;
         }
         if bound <= seconds[i] as usize {
+            return false;
+        }
+        i += 1;
+    }
+    true
+}
+
+// 16: has every arc two different ends?
+pub fn have_two_ends(tails: &[u8], heads: &[u8], count: usize) -> bool
+    requires { ⌜ Holds count (now tails) (now heads) ⌝ }
+    ensures { λ r. ⌜ r ≡ all hasTwoEnds (pairsOf count (now (tails .entry)) (now (heads .entry))) ⌝ }
+{
+    let mut i: usize = 0;
+    // invariant: the answer is `all hasTwoEnds` of what stands from i on; falls: arcs left
+    while i < count {
+        if tails[i] == heads[i] {
             return false;
         }
         i += 1;

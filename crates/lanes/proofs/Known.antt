@@ -4,6 +4,7 @@
 --   known-ends        files with either line end
 --   known-isolated    cameras without a fit
 --   known-budgets     budgets of searches
+--   known-self-arcs   arcs from a node to itself
 use mathlib.Core.Path.{refl}
 use Rattle.counting.specs.Tests.{all, any, among, noneTwice, upFrom, keep}
 use Rattle.counting.specs.Pairs.{secondsOf}
@@ -14,7 +15,7 @@ use Rattle.matching.specs.Stock.{hasPair, noneShared, withFirst, allPairings, m
 use Rattle.matching.specs.Budget.{searchOneByOne}
 use Rattle.files.specs.StockFile.{markLines, planLines}
 use Rattle.files.specs.CertificateFile.{classLines, pathLines, namesInOrder}
-use Rattle.lanes.specs.Known.{KnownFiles, KnownTexts, KnownEnds, KnownIsolated, KnownBudgets}
+use Rattle.lanes.specs.Known.{KnownFiles, KnownTexts, KnownEnds, KnownIsolated, KnownBudgets, KnownSelfArcs}
 
 pub known-files : KnownFiles
 unfolding all any among noneTwice upFrom keep nodesAlong isJoined noMates endOf reachesFrom largestOf entriesInto partOnce partBy leastOf classesFrom hasPair noneShared pairsRise linesOf endsWhole hexFrom hexBytes laterFit bodiesFit pairsIn numbersIn matesFit classLines pathLines namesInOrder secondsOf
@@ -56,3 +57,7 @@ known-budgets = (
   refl,
   refl,
 )
+
+pub known-self-arcs : KnownSelfArcs
+unfolding all any among upFrom linesOf endsWhole hexFrom hexBytes laterFit bodiesFit pairsIn numbersIn matesFit largestOf entriesInto classLines namesInOrder
+known-self-arcs = (refl, refl, refl, refl, refl, refl, refl, refl, refl, refl, refl, refl, refl, refl)

@@ -6,6 +6,7 @@
 --   BudgetPromises   the budgeted call's promises
 --   EitherEnd        the promises where lines end either way
 --   Checks           the check's answer
+--   SelfArcs         the promises where an arc leads from a node to itself
 --   GraphCalls       what the graph call answers
 --   StockCalls       what the stock calls answer
 --   BudgetCalls      what the budgeted call answers
@@ -21,6 +22,7 @@ pub mod BytePromises
 pub mod BudgetPromises
 pub mod EitherEnd
 pub mod Checks
+pub mod SelfArcs
 pub mod GraphCalls
 pub mod StockCalls
 pub mod BudgetCalls

@@ -1,8 +1,8 @@
 -- Five promises as document 03 states them: of files whose elements are bytes. Promise says as much or more, of every file: of four under the same name.
 -- Document 03's markOf is pairingMark here, since document 02's L2 gives cameras without a fit a mark of their own; there MarksAre speaks of the new mark,
--- and MarksKept says how the two differ.
+-- and MarksKept says how the two differ. Its graphFault is basicGraphFault, since L5 asks one question more.
 --   areBytes           every element is a byte
---   IsGraphFile        bytes that the questions of a graph file accept
+--   IsGraphFile        bytes that document 03's questions of a graph file accept
 --   ReachesByPaths, PathOrBarrier, GreatestIs, MarksAre, SheetsTell    demands 2 and 3, of files of bytes
 use mathlib.Core.Path.{_≡_}
 use mathlib.Core.Logic.{_↔_}
@@ -16,7 +16,7 @@ use Rattle.skew.specs.Graph.{isWanted, isReachable, hasPath, isBarrier, canonic
 use Rattle.skew.specs.Promise.{SomePath}
 use Rattle.matching.specs.Promise.{LeftBySome, FitsSomeLeft}
 use Rattle.matching.specs.Stock.{isPairing, greatest, pairingMark, isPlan}
-use Rattle.files.specs.GraphFile.{graphIn, graphFault}
+use Rattle.files.specs.GraphFile.{graphIn, basicGraphFault}
 use Rattle.files.specs.StockFile.{stockIn, stockFault, alike}
 use Rattle.lanes.specs.Entry.{sheetOfFile, sheetFault}
 use Rattle.lanes.specs.Promise.{sheetIn}
@@ -26,7 +26,7 @@ areBytes [] = true
 areBytes (b ∷ bs) = leb b 255 && areBytes bs
 
 abbrev pub IsGraphFile : (file : List ℕ) → Type 0
-IsGraphFile f = (areBytes f ≡ true) × (graphFault f ≡ 0)
+IsGraphFile f = (areBytes f ≡ true) × (basicGraphFault f ≡ 0)
 
 abbrev pub ReachesByPaths : Type 0
 ReachesByPaths =

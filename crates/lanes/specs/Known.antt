@@ -11,6 +11,7 @@
 --   s5, s5Plan, oneFit, noCameras     S5, its plan; so many cameras, of which two fit each other; none
 --   Budgets                           a pairing is one that so many searches may come to, with these numbers in the header
 --   KnownBudgets                      S5's answers to budgets of 0, 1, 2 and 64 searches, and edges
+--   KnownSelfArcs                     question 16, with those before and after it, and in the check; an arc to a node's mate
 use mathlib.Core.Path.{_≡_}
 use mathlib.Core.Bool.{true, false}
 use mathlib.Core.List.{List, [], _∷_, _++_}
@@ -20,11 +21,11 @@ use lib.ListN.{length, drop}
 use Rattle.formats.specs.Kinds.{arcKind, budgetEnd, budgetKind, fitKind, graphEnd, graphKind, litKind, markKind, sheetEnd, sheetKind, stockEnd, stockKind}
 use Rattle.frames.specs.Frames.{orElse, frame4, frame6, frame8, frameOf4}
 use Rattle.frames.specs.EitherEnd.{withReturns}
-use Rattle.skew.specs.Graph.{canonical}
+use Rattle.skew.specs.Graph.{isBarrier, canonical}
 use Rattle.counting.specs.Pairs.{Pair}
 use Rattle.matching.specs.Stock.{Stock, isPlan}
 use Rattle.matching.specs.Budget.{gain, isBudgeted, searchOneByOne}
-use Rattle.files.specs.GraphFile.{graphIn, graphFault}
+use Rattle.files.specs.GraphFile.{graphIn, graphFault, basicGraphFault}
 use Rattle.files.specs.StockFile.{stockIn, stockFault, planLines, planText, sheetText}
 use Rattle.files.specs.CertificateFile.{pathText, barrierText}
 use Rattle.lanes.specs.Entry.{sheetOfFile, checkPost, mostFault, budgetFault, budgetTextOf}
@@ -153,3 +154,18 @@ KnownBudgets =
     Budgets (oneFit 3) 1 (arc 0 1 ∷ []) 1 0 × Budgets noCameras 0 [] 0 0 × Budgets noCameras 1 [] 1 0 × Budgets noCameras 64 [] 1 0 ×
     (searchOneByOne 64 (gain s5) ≡ record { searches = 2; found = 1; none = true }) × (mostFault 64 ≡ 0) × (mostFault 65 ≡ 15) ×
     (budgetFault 65 s5File [] ≡ 1) × (orElse (mostFault 65) (stockFault []) ≡ 15) × (orElse (mostFault 64) (stockFault []) ≡ 4)
+
+-- ARCS FROM A NODE TO ITSELF (document 02, L5)
+-- at node 0 and, mated, at its mate; then with a wrong mate behind it, before it, and a node that is not there beside it or in it; one alone, and so an odd
+-- number of arcs; behind a header that fails 5. G2, whose arcs lead to the source's mate; a wrong mate without such an arc. The check, with no certificate,
+-- and with one that document 03 accepts
+abbrev pub KnownSelfArcs : Type 0
+KnownSelfArcs =
+    (graphFault (graphFileOf 1 (arc 0 0 ∷ arc 1 1 ∷ [])) ≡ 16) × (basicGraphFault (graphFileOf 1 (arc 0 0 ∷ arc 1 1 ∷ [])) ≡ 0) ×
+    (graphFault (graphFileOf 1 (arc 0 0 ∷ arc 0 1 ∷ [])) ≡ 16) × (basicGraphFault (graphFileOf 1 (arc 0 0 ∷ arc 0 1 ∷ [])) ≡ 10) ×
+    (graphFault (graphFileOf 1 (arc 0 1 ∷ arc 1 1 ∷ [])) ≡ 16) × (graphFault (graphFileOf 1 (arc 0 0 ∷ arc 2 1 ∷ [])) ≡ 9) ×
+    (graphFault (graphFileOf 1 (arc 2 2 ∷ arc 3 3 ∷ [])) ≡ 9) × (graphFault (graphFileOf 1 (arc 0 0 ∷ [])) ≡ 8) ×
+    (graphFault (graphFileOf 0 (arc 0 0 ∷ arc 1 1 ∷ [])) ≡ 5) × (graphFault (graphFileOf 1 (arc 0 1 ∷ arc 0 1 ∷ [])) ≡ 0) ×
+    (graphFault (graphFileOf 2 (arc 0 2 ∷ arc 1 3 ∷ [])) ≡ 10) × (checkPost (graphFileOf 1 (arc 0 0 ∷ arc 1 1 ∷ [])) [] ≡ Refused 16) ×
+    (checkPost (graphFileOf 1 (arc 0 0 ∷ arc 1 1 ∷ [])) (barrierText (1 ∷ 2 ∷ [])) ≡ Refused 16) ×
+    (isBarrier (graphOf 1 (arc 0 0 ∷ arc 1 1 ∷ [])) (1 ∷ 2 ∷ []) ≡ true)

@@ -9,6 +9,7 @@
 --   BytePromise        five of them as document 03 states them
 --   BudgetPromise      what is promised of the budgeted call
 --   EitherEnd          what is promised where lines end either way
+--   SelfArcs           what is promised where an arc leads from a node to itself
 --   Known              known graphs and stocks as files, byte for byte
 pub mod Entry
 pub mod Verdicts
@@ -20,4 +21,5 @@ pub mod Promise
 pub mod BytePromise
 pub mod BudgetPromise
 pub mod EitherEnd
+pub mod SelfArcs
 pub mod Known

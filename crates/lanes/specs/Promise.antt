@@ -1,7 +1,8 @@
 -- What is promised of every graph file and of every two stock files. Each promise is a type; a term of the type is the theorem's proof.
 -- ReachesByPaths, PathOrBarrier, GreatestIs, MarksAre and SheetsTell are document 03's (BytePromise has them as it states them), without its premise that
 -- a file's elements are bytes; PathOrBarrier also says what hasPath tells, and MarksAre what mark 2 does, and mark 3, which document 02's L2 brings. The
--- others are added.
+-- others are added. Those of demand 2 ask of a graph file what document 03's questions do (basicGraphFault), so they hold of every accepted one, and of
+-- those too that question 16 alone refuses (files/specs/SelfArcs, AcceptedIs and SixteenIs).
 --   ReachesByPaths    demand 2: a node is reachable exactly if a regular path from the source ends there
 --   PathOrBarrier     demand 2: a path and a barrier exclude each other, and without a path the canonical one is a barrier; hasPath tells which
 --   GreatestIs        demand 3: the greatest number of pairs, by all pairings of the file's fits; and there is a plan
@@ -26,18 +27,18 @@ use Rattle.skew.specs.Graph.{Graph, isRegular, isWanted, isReachable, hasPath, 
 use Rattle.skew.specs.Promise.{SomePath}
 use Rattle.matching.specs.Promise.{HasFit, MarkMeans}
 use Rattle.matching.specs.Stock.{isPairing, greatest, pairingMark, markOf, marksOf, isPlan}
-use Rattle.files.specs.GraphFile.{graphIn, graphFault}
+use Rattle.files.specs.GraphFile.{graphIn, basicGraphFault}
 use Rattle.files.specs.StockFile.{stockIn, stockFault, alike}
 use Rattle.lanes.specs.Entry.{sheetOfFile, sheetLeaves, sheetFault}
 
 -- DEMAND 2
 abbrev pub ReachesByPaths : Type 0
 ReachesByPaths =
-    (f : List ℕ) (w : ℕ) → graphFault f ≡ 0 → (isReachable (graphIn f) w ≡ true) ↔ SomePath (graphIn f) w
+    (f : List ℕ) (w : ℕ) → basicGraphFault f ≡ 0 → (isReachable (graphIn f) w ≡ true) ↔ SomePath (graphIn f) w
 
 abbrev pub PathOrBarrier : Type 0
 PathOrBarrier =
-    (f : List ℕ) → graphFault f ≡ 0 →
+    (f : List ℕ) → basicGraphFault f ≡ 0 →
     (hasPath (graphIn f) ≡ false → isBarrier (graphIn f) (canonical (graphIn f)) ≡ true) ×
     ((is cs : List ℕ) → isWanted (graphIn f) is ≡ true → isBarrier (graphIn f) cs ≡ false) ×
     ((hasPath (graphIn f) ≡ true) ↔ ((is : List ℕ) × (isWanted (graphIn f) is ≡ true)))

@@ -1,4 +1,4 @@
-/* The pairing engine's calls, in liblanes_c.a (document 01, "Questions put to a call"; lanes_budget: document 02, L4).
+/* The pairing engine's calls, in liblanes_c.a (document 01, "Questions put to a call"; lanes_budget: document 02, L4; refusal 16: L5).
  *
  * A file and a buffer are a pointer and a number of bytes, each readable (a buffer also writable) over its whole length during the call; a buffer
  * overlaps neither the file nor the tally. No pointer is null. A call keeps nothing behind and may run in several threads at once.
@@ -31,7 +31,8 @@ extern "C" {
 /* The most searches that lanes_budget may be granted, enough for a plan of every stock. */
 #define LANES_SEARCHES_MOST 64
 
-/* A graph file: a regular path from the source to its mate or, where there is none, the canonical barrier. */
+/* A graph file: a regular path from the source to its mate or, where there is none, the canonical barrier. A graph that passes
+ * questions 2 to 9 and has an arc from a node to itself is refused with 16, by the check too. */
 uint64_t lanes_graph(const uint8_t *file, size_t file_size, uint8_t *out, size_t out_size, uint32_t tally[4]);
 
 /* A stock file: as many pairs as possible, every lit camera still lit; the lit pairs where those are as many. */
@@ -47,8 +48,8 @@ uint64_t lanes_sheet(const uint8_t *file, size_t file_size, uint8_t *out, size_t
  * MM pairs. */
 uint64_t lanes_budget(const uint8_t *file, size_t file_size, uint32_t most, uint8_t *out, size_t out_size, uint32_t tally[4]);
 
-/* A graph file and a certificate, a path or a barrier: 1 for yes, 0 for no, otherwise the refusal, which is 2 or more: the graph's number (2 to 10), or the
- * certificate's with 40 added. */
+/* A graph file and a certificate, a path or a barrier: 1 for yes, 0 for no, otherwise the refusal, which is 2 or more: the graph's number (2 to 10 or 16), or
+ * the certificate's with 40 added. */
 uint8_t lanes_check(const uint8_t *graph, size_t graph_size, const uint8_t *certificate, size_t certificate_size);
 
 #ifdef __cplusplus

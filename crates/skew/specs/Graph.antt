@@ -3,6 +3,7 @@
 --   Graph                                      mate pairs of nodes, the source, and arcs in file order
 --   mate v, nodes g, arcAt g i                 the mate of a node or an arc; how many nodes there are; the arc i
 --   areMates x y, matesFit xs                  two arcs are mates; each odd-numbered arc is the mate of the one before
+--   hasTwoEnds x                               the arc leads from a node to another one (document 02, L5); a graph may have others
 --   nodesAlong g v p, endOf g v p              the nodes along the arcs p from v; the last of them
 --   isJoined g v p, noMates p                  arcs of g, each starting where the one before ended, the first at v; no arc with its mate
 --   isRegular g p, isWanted g p                a regular path from the source; one to the source's mate
@@ -53,6 +54,9 @@ unfoldable pub matesFit : List Pair → Bool
 matesFit [] = true
 matesFit (x ∷ []) = true
 matesFit (x ∷ y ∷ rest) = areMates x y && matesFit rest
+
+abbrev pub hasTwoEnds : Pair → Bool
+hasTwoEnds x = not (eqb (x .first) (x .second))
 
 -- A REGULAR PATH as arc numbers: each starts where the one before ended; no node twice, no arc with its mate
 unfoldable pub nodesAlong : Graph → (from : ℕ) → (arcs : List ℕ) → List ℕ

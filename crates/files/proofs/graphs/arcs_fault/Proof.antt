@@ -10,12 +10,17 @@ returns c = rw (sym (c .before .are-named .ensures) ∙ not-true _ (c .if1 .take
 
 returns-2 : tie.Need-returns-2
 returns-2 c =
-    rw (sym (c .before .before .before .are-named .ensures) ∙ not-false _ (c .before .before .if1 .left), sym (c .before .are-mated .ensures) ∙ not-true _ (c .if2 .taken))
+    rw (sym (c .before .before .before .are-named .ensures) ∙ not-false _ (c .before .before .if1 .left), sym (c .before .have-two-ends .ensures) ∙ not-true _ (c .if2 .taken))
 
 returns-3 : tie.Need-returns-3
 returns-3 c =
-    rw (sym (c .before .before .before .are-named .ensures) ∙ not-false _ (c .before .before .if1 .left), sym (c .before .are-mated .ensures) ∙ not-false _ (c .if2 .left))
+    rw (sym (c .before .before .before .before .before .are-named .ensures) ∙ not-false _ (c .before .before .before .before .if1 .left), sym (c .before .before .before .have-two-ends .ensures) ∙ not-false _ (c .before .before .if2 .left), sym (c .before .are-mated .ensures) ∙ not-true _ (c .if3 .taken))
+
+returns-4 : tie.Need-returns-4
+returns-4 c =
+    rw (sym (c .before .before .before .before .before .are-named .ensures) ∙ not-false _ (c .before .before .before .before .if1 .left), sym (c .before .before .before .have-two-ends .ensures) ∙ not-false _ (c .before .before .if2 .left), sym (c .before .are-mated .ensures) ∙ not-false _ (c .if3 .left))
 
 pub arcs-fault-spec : {M : Type 1} → statement M
 arcs-fault-spec =
-    tie.close (tie.spec (λ c κs. search needs) returns (λ c κs. search needs) returns-2 returns-3)
+    tie.close
+    (tie.spec (λ c κs. search needs) returns (λ c κs. search needs) returns-2 (λ c κs. search needs) returns-3 returns-4)
