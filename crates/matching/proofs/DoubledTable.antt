@@ -7,6 +7,7 @@
 --   source-arc, lit-arc, other-arc           and of each kind every one is there
 --   camera-size, table-size                  at most 2 · (cameras + fits) arcs
 --   table-well-formed                        a well-formed graph
+--   table-two-ends                           no arc leads from a node to itself, whatever the fits and the partners
 use mathlib.Core.Path.{_≡_, refl, sym, ap, subst, _∙_}
 use mathlib.Core.Logic.{inl, inr, _≢_, ⊎-elim}
 use mathlib.Core.Bool.{true, false}
@@ -16,13 +17,13 @@ use native.Mathlib.Omega.{arith}
 use lib.Dec.{ltb, eqb}
 use lib.ListN.{length, length-append}
 use borrow.Author.Tests.{eqb-true, eqb-false, eq-eqb, ne-eqb, ltb-true, ltb-false, lt-ltb}
-use Rattle.counting.specs.Tests.{below}
+use Rattle.counting.specs.Tests.{all, below}
 use Rattle.counting.specs.Lists.{In}
 use Rattle.counting.specs.Pairs.{Pair, pair, noPair}
 use Rattle.counting.proofs.Booleans.{and-both, by-test, same-or}
 use Rattle.counting.proofs.Membership.{in-getD, getD-in}
 use Rattle.counting.proofs.Range.{up-in, in-up, length-up}
-use Rattle.skew.specs.Graph.{Graph, mate, arcAt, matesFit}
+use Rattle.skew.specs.Graph.{Graph, mate, arcAt, matesFit, hasTwoEnds}
 use Rattle.skew.specs.Paths.{head, WellFormed}
 use Rattle.skew.proofs.Mates.{mate-is}
 use Rattle.matching.specs.Matching.{FitsBelow, Fits, Matching}
@@ -76,6 +77,31 @@ camera-size n p (k ∷ ks) rest =
 
 pub table-size : (n : ℕ) (fs : List Pair) (p : ℕ → ℕ) → length (doubledTable n fs p .arcs) ≤ 2 * n + 2 * length fs
 table-size n fs p = omega (arith, camera-size n p (below n) (fitArcs p fs), fit-size p fs, length-up 0 n)
+
+-- TWO ENDS (document 02, L5)
+module _ (p : ℕ → ℕ) where
+  fit-two-ends : (xs : List Pair) → all hasTwoEnds (fitArcs p xs) ≡ true
+  unfolding fitArcs all
+  fit-two-ends [] = refl
+  fit-two-ends (x ∷ xs) =
+      let apart : (u v : ℕ) → eqb (2 * u) (2 * v + 1) ≡ false = λ u v. ne-eqb (2 * u) (2 * v + 1) (λ e. omega arith) in
+      by-test (eqb (p (x .first)) (x .second)) (λ t. rw t (fit-two-ends xs))
+      (λ t. rw (t, apart (x .first) (x .second), apart (x .second) (x .first)) (fit-two-ends xs))
+
+  camera-two-ends : (n : ℕ) (ks : List ℕ) (rest : List Pair) → ((k : ℕ) → In k ks → k < n) → all hasTwoEnds rest ≡ true →
+      all hasTwoEnds (cameraArcs n p ks rest) ≡ true
+  unfolding cameraArcs all
+  camera-two-ends n [] rest h e = e
+  camera-two-ends n (k ∷ ks) rest h e =
+      let ih = camera-two-ends n ks rest (λ z i. h z (inr i)) e in
+      let l = h k (inl refl) in
+      by-camera p k
+      (λ q t. rw (t, ne-eqb (2 * n) (2 * k) (λ z. omega arith), ne-eqb (2 * k + 1) (2 * n + 1) (λ z. omega arith)) ih)
+      (λ q t s. rw (t, s, ne-eqb (2 * k + 1) (2 * p k) (λ z. omega arith), ne-eqb (2 * p k + 1) (2 * k) (λ z. omega arith)) ih)
+      (λ q t s. rw (t, s) ih)
+
+pub table-two-ends : (n : ℕ) (fs : List Pair) (p : ℕ → ℕ) → all hasTwoEnds (doubledTable n fs p .arcs) ≡ true
+table-two-ends n fs p = camera-two-ends p n (below n) (fitArcs p fs) (λ k m. omega (arith, in-up 0 n k m)) (fit-two-ends p fs)
 
 module _ (n : ℕ) (fs : List Pair) (F : FitsBelow n fs) (p : ℕ → ℕ) (M : Matching fs p) where
   abbrev g : Graph
