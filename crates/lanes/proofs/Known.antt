@@ -59,5 +59,5 @@ known-budgets = (
 )
 
 pub known-self-arcs : KnownSelfArcs
-unfolding all any among upFrom linesOf endsWhole hexFrom hexBytes laterFit bodiesFit pairsIn numbersIn matesFit largestOf entriesInto classLines namesInOrder
+unfolding all upFrom linesOf endsWhole hexFrom hexBytes bodiesFit pairsIn matesFit largestOf
 known-self-arcs = (refl, refl, refl, refl, refl, refl, refl, refl, refl, refl, refl, refl, refl, refl)
