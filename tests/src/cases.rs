@@ -3,7 +3,8 @@
 //!   examples_folder                   the files of examples/ are these and those of known.rs with isolated cameras or budgets, and their
 //!                                     answers are right
 //!   tallies                           calls in a row, with counts at and near 4,294,967,295
-//!   edges                             sizes at which a question changes its answer, and the buffer's
+//!   edges                             sizes at which a question changes its answer, and the buffer's; a fit behind a lit pair
+//!   FIT_BEHIND_LIT                    stocks with one
 //!   traps                             document 01's traps
 //!   one_of                            an answer is among those that the document allows
 //!   plan_answer, sheet_answer         what one call answers, judged
@@ -99,6 +100,9 @@ pub fn graph_of_arcs(pairs: usize, number: usize) -> Vec<u8> {
     graph_file(pairs, 0, &arcs)
 }
 
+/// Their body lines stand in another order than the table of frames has them.
+pub const FIT_BEHIND_LIT: [&[u8]; 2] = [b"1104\n120001\n130001\n120203\n1F0003\n", b"1104\n130001\n120001\n1F0002\n"];
+
 pub fn edges(judge: &mut Judge) -> Trial {
     graph_refusal(judge, &graph_file(0x80, 0, &[]), 0)?;
     graph_refusal(judge, &graph_file(0x80, 0xFF, &[]), 0)?;
@@ -117,6 +121,7 @@ pub fn edges(judge: &mut Judge) -> Trial {
     stock_refusal(judge, b"", 4)?;
     graph_refusal(judge, b"010100\n", 6)?;
     stock_refusal(judge, b"1100\n", 6)?;
+    FIT_BEHIND_LIT.into_iter().try_for_each(|file| stock_refusal(judge, file, 6))?;
     verdict(judge, &graph(1, &[]).file(), &path_file(&[]), Verdict::No)?;
     verdict(judge, &graph(2, &G5).file(), &path_file(&[]), Verdict::No)?;
     for room in [0, 1, 2_046, 2_047, 2_048, 2_049, 60_000] {

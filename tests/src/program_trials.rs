@@ -5,7 +5,8 @@
 //!   self_arcs           graphs with self arcs, and such as nearly have them, with all line ends
 //!   budgets             S5 and others with words for every number of searches from 0 to 64
 //!   other_words         words that are no such number, beside good stocks and faulty ones
-//!   refusals            every question as the first failing one, of every file of every program, with all line ends
+//!   refusals            every question as the first failing one, of every file of every program, with all line ends; a fit behind a lit
+//!                       pair
 //!   line_ends           document 01's examples with all line ends, and files with ends that are none
 //!   full_files          as many lines with CR LF as 60,000 bytes hold, and one byte more
 //!   other_bytes         files with bytes that are no digits, spelled otherwise, or followed by something
@@ -17,7 +18,7 @@
 //!   stock_sizes         sheets of every number of cameras, plans and answers to budgets of every number of pairs
 //! The longest come first, so that a program that cuts is soon found.
 
-use crate::cases::{graph_of_arcs, one_of};
+use crate::cases::{graph_of_arcs, one_of, FIT_BEHIND_LIT};
 use crate::damage::{BYTES, DIGITS};
 use crate::engine::Verdict;
 use crate::faults::{failing, graph_for_certificates, questions, Kind, KINDS};
@@ -239,7 +240,7 @@ pub fn refusals(programs: &Programs, random: &mut Random) -> Trial {
             }
         }
     }
-    Ok(())
+    FIT_BEHIND_LIT.into_iter().try_for_each(|file| programs.stock(file)?.iter().try_for_each(|line| owed(line, refusal_line(6))))
 }
 
 pub fn line_ends(programs: &Programs, random: &mut Random) -> Trial {

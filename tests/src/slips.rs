@@ -1,14 +1,15 @@
 //! More engines with one part wrong: slips of the buffer, the tally, the marks, the check, and the order of questions.
 //!   of_calls       in what a call writes and counts
 //!   of_check       in the check
-//!   of_questions   a question not put, or put before the one that stands before it
+//!   of_questions   a question not put, put before the one that stands before it, or put in part
 
-use crate::engine::Told;
-use crate::frames::Pair;
+use crate::engine::{Tally, Told};
+use crate::frames::{Pair, LF};
 use crate::graph_trial::{self, is_barrier, Certificate, Graph, CERTIFICATE_QUESTIONS, GRAPH_QUESTIONS};
 use crate::reference::{self, GraphAnswer, Parts};
 use crate::stock_trial::{self, Standing, Stock, STOCK_QUESTIONS};
 use crate::wrong::{named, with_classes, Named};
+use std::mem::swap;
 
 // ---- calls
 
@@ -31,6 +32,7 @@ pub fn of_calls() -> Vec<Named> {
             "a tally that stops one early",
             Parts { raise: |count| if count >= u32::MAX - 1 { count } else { count + 1 }, ..right() },
         ),
+        named("paths and barriers counted for each other", Parts { answer_graph: Box::new(counts_exchanged), ..right() }),
         named("a plan that drops lit cameras", Parts { plan: lit_forgotten, ..right() }),
         named("a plan in falling order", Parts { plan: |stock| reference::plan(stock).into_iter().rev().collect(), ..right() }),
         named(
@@ -56,6 +58,13 @@ fn changing_a_byte(number: u8, out: &mut [u8]) -> Told {
         *byte = b'7';
     }
     Told { number, size: 0 }
+}
+
+fn counts_exchanged(parts: &Parts, file: &[u8], out: &mut [u8], tally: &mut Tally) -> Told {
+    swap(&mut tally.paths, &mut tally.barriers);
+    let told = reference::answer_graph(parts, file, out, tally);
+    swap(&mut tally.paths, &mut tally.barriers);
+    told
 }
 
 fn lit_forgotten(stock: &Stock) -> Vec<Pair> {
@@ -145,10 +154,11 @@ fn class_82_in_base_ten(graph: &Graph, file: &[u8]) -> Result<Certificate, u8> {
     }
 }
 
-// ---- the questions in another order, or one of them not put
+// ---- the questions in another order, or one of them not put, or put in part
 
 pub fn of_questions() -> Vec<Named> {
-    let mut all = Vec::new();
+    let any_order = Parts { read_stock: Box::new(kinds_in_any_order), ..Parts::right() };
+    let mut all = vec![named("stock: fits taken behind lit pairs", any_order)];
     for (kind, questions) in
         [("graph", &GRAPH_QUESTIONS[..]), ("stock", &STOCK_QUESTIONS[..]), ("certificate", &CERTIFICATE_QUESTIONS[..])]
     {
@@ -165,6 +175,18 @@ pub fn of_questions() -> Vec<Named> {
         }
     }
     all
+}
+
+/// Question 6 without the order of body lines.
+fn kinds_in_any_order(file: &[u8]) -> Result<Stock, u8> {
+    let mut lines: Vec<&[u8]> = file.split_inclusive(|byte| *byte == LF).collect();
+    if let [_, body @ .., _] = &mut lines[..] {
+        body.sort_by_key(|line| line.starts_with(b"13"));
+    }
+    match stock_trial::read(file) {
+        Err(6) => stock_trial::read(&lines.concat()),
+        read => read,
+    }
 }
 
 /// Files that a left-out question alone would refuse get a number that is none.

@@ -144,13 +144,14 @@ fn read_once(_: &str, input: &mut dyn Read) -> Done<Vec<u8>> {
 
 // ---- printing
 
-const PRINTING: [Slip; 7] = [
+const PRINTING: [Slip; 8] = [
     ("prints no last line feed", |right| Manner { print: |text| text[..text.len() - 1].to_vec(), ..right }),
     ("prints one line feed more", |right| Manner { print: |text| [&text[..], b"\n"].concat(), ..right }),
     ("prints carriage returns", |right| Manner { print: |text| cr_lf(&text), ..right }),
     ("prints lower-case digits", |right| Manner { print: |text| text.to_ascii_lowercase(), ..right }),
     ("prints refusals in base ten", |right| Manner { refusal: |number| format!("7E{number:02}\n").into_bytes(), ..right }),
     ("prints nothing for a refusal", |right| Manner { refusal: |_| Vec::new(), ..right }),
+    ("prints a refusal as a verdict", |right| Manner { refusal: |number| format!("7A{number:02X}\n").into_bytes(), ..right }),
     ("ends with status 1", |right| Manner { status: WRONG_STATUS, ..right }),
 ];
 
