@@ -1,5 +1,5 @@
-/* One call on one file: driver graph|plan|sheet FILE, or driver budget FILE SEARCHES. Ends with the refusal's number, 0 for an answer, or 100 where there
- * is no file. */
+/* One call on one file: driver graph|stock FILE, or driver budget FILE SEARCHES. Ends with the refusal's number, 0 for an answer, or 100 where there is
+ * no file. */
 #include <stdio.h>
 #include <string.h>
 #include "lanes.h"
@@ -19,8 +19,7 @@ int main(int count, char **words) {
   size_t size = fread(file, 1, sizeof file, in);
   fclose(in);
   uint64_t told = !strcmp(words[1], "graph") ? lanes_graph(file, size, out, sizeof out, tally)
-                : !strcmp(words[1], "plan") ? lanes_plan(file, size, out, sizeof out, tally)
                 : count == 4 ? lanes_budget(file, size, decimal(words[3]), out, sizeof out, tally)
-                             : lanes_sheet(file, size, out, sizeof out, tally);
+                             : lanes_stock(file, size, out, sizeof out, tally);
   return LANES_NUMBER(told);
 }

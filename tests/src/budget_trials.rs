@@ -19,7 +19,7 @@ use crate::cases::{by_trial, one_of};
 use crate::engine::Tally;
 use crate::exhaustive::every_fits;
 use crate::faults::{failing, Kind};
-use crate::frames::{budget_file, number, Pair, Text, BUDGET};
+use crate::frames::{budget_file, halves, number, sheet_in, Pair, Text, BUDGET};
 use crate::generate::{
     ear_fits, middling_stock, nearly_largest_lit, placed, shuffled_stock, small_stock, some_fits, some_lit, stock_of,
     stock_with_isolated,
@@ -115,7 +115,7 @@ type Counted = (Call, Vec<u8>, Count);
 fn some_call(random: &mut Random) -> Counted {
     let granted = Call::Budget(random.below(65) as u32);
     let refused = Call::Budget(*random.choose(&OVER));
-    let of_stock = *random.choose(&[Call::Plan, Call::Sheet, granted, granted]);
+    let of_stock = *random.choose(&[Call::Stock, granted]);
     let good = small_stock(random).file();
     match random.below(8) {
         0 => (Call::Graph, graph(1, &[(0, 1), (0, 1)]).file(), Count::Paths),
@@ -223,13 +223,14 @@ pub fn answers_compared(judge: &mut Judge, files: usize) -> Trial {
         let all = (0..=MOST_SEARCHES).map(|most| given(judge, &stock, most)).collect::<Result<Vec<Given>, String>>()?;
         all.iter().zip(0..).try_for_each(|(given, most)| holds_alone(&stock, given, most))?;
         all.windows(2).try_for_each(|two| holds_of_two(&stock, &two[0], &two[1]))?;
-        let greatest = greatest_by_sheet(judge, &stock)?;
+        let answer = judge.given(Call::Stock, &stock.file())?;
+        let (plan, sheet) = halves(&answer);
+        let (planned, greatest) = (Text::of(plan).body().len(), told_pairs(sheet));
         for given in &all {
             held(greatest <= given.numbers.pairs + given.numbers.missing, "more can be lit than is told", &stock, &[given])?;
         }
         let last = &all[MOST_SEARCHES as usize];
-        let plan = Text::of(&judge.given(Call::Plan, &stock.file())?).body().len();
-        let agree = greatest == last.numbers.pairs && plan == greatest && is_plan(&stock, greatest, &last.pairs);
+        let agree = greatest == last.numbers.pairs && planned == greatest && is_plan(&stock, greatest, &last.pairs);
         held(agree, "with 64 searches it is no plan, or the sheet or the plan has another number", &stock, &[last])?;
         let most = judge.random.below(65);
         let again = given(judge, &stock, most as u32)?;
@@ -237,9 +238,9 @@ pub fn answers_compared(judge: &mut Judge, files: usize) -> Trial {
     })
 }
 
-fn greatest_by_sheet(judge: &mut Judge, stock: &Stock) -> Result<usize, String> {
-    let sheet = judge.given(Call::Sheet, &stock.file())?;
-    Ok(number(Text::of(&sheet).header(), 2, 2))
+/// The number of pairs in the header of a plan or a sheet.
+fn told_pairs(half: &[u8]) -> usize {
+    number(Text::of(half).header(), 2, 2)
 }
 
 /// Each search lights one more, but for the last where it found none; without such a one all that were granted have run.
@@ -302,7 +303,7 @@ fn adds_up(stock: &Stock, before: &Given, after: &Given, at_once: &Given, second
 pub fn one_at_a_time(judge: &mut Judge, files: usize) -> Trial {
     (0..files).try_for_each(|_| {
         let stock = some_stock(&mut judge.random);
-        let greatest = greatest_by_sheet(judge, &stock)?;
+        let greatest = told_pairs(sheet_in(&judge.given(Call::Stock, &stock.file())?));
         let mut at_hand = stock.clone();
         for lit in stock.lit.len()..=greatest {
             let given = given(judge, &at_hand, 1)?;

@@ -1,27 +1,27 @@
 //! Document 01's examples, edges and traps, each with what the document says of it, and the points that it leaves to the reader.
 //!   graph_examples, stock_examples    G1 to G5, S1 to S7
-//!   examples_folder                   the files of examples/ are these and those of known.rs with isolated cameras or budgets, and their
-//!                                     answers are right
+//!   examples_folder                   the files of examples/ are these and those of known.rs with isolated cameras or budgets, no others,
+//!                                     and their answers are right
 //!   tallies                           calls in a row, with counts at and near 4,294,967,295
 //!   edges                             sizes at which a question changes its answer, and the buffer's; a fit behind a lit pair
 //!   FIT_BEHIND_LIT                    stocks with one
 //!   traps                             document 01's traps
 //!   one_of                            an answer is among those that the document allows
-//!   plan_answer, sheet_answer         what one call answers, judged
+//!   stock_answer                      what a stock gets, judged
 //!   by_trial, graph_refusal, stock_refusal, verdict    the trial and the engine held to what is plain beforehand; 0 for an answer
 //!   graph_of_arcs                     a graph of a number of arcs
 //!   points_left_to_the_reader         what is decided where document 01 can be read in two ways
 
 use crate::engine::{Tally, Verdict};
-use crate::frames::{barrier_file, file, graph_file, pair_lines, path_file, plan_file, sheet_file, stock_file, Pair};
+use crate::frames::{barrier_file, file, graph_file, pair_lines, path_file, printout, stock_file, Pair};
 use crate::generate::all_fits;
 use crate::graph_trial;
 use crate::judge::{shown, Call, Judge, Trial, LEAST_ROOM};
-use crate::known::{graph, graphs, isolated_examples, stock, stocks, KnownGraph, KnownStock, G3, G4, G5, S5_BUDGETS, S7};
+use crate::known::{graph, graphs, isolated_examples, stock, stocks, KnownGraph, G3, G4, G5, S5_BUDGETS, S7};
 use crate::line_ends::cr_lf;
 use crate::prints::verdict_line;
 use crate::stock_trial;
-use crate::truth::{budget_owed, graph_owed, graph_truth, plan_owed, sheet_owed, stock_truth, Count};
+use crate::truth::{budget_owed, graph_owed, graph_truth, stock_owed, stock_truth, Count};
 use std::fs;
 
 /// What the trial itself says, against the documents.
@@ -45,12 +45,8 @@ fn graph_answer(judge: &mut Judge, file: &[u8]) -> Result<Vec<u8>, String> {
     judge.lend(Call::Graph, file, LEAST_ROOM, &graph_owed(&graph_truth(file)))
 }
 
-pub fn plan_answer(judge: &mut Judge, file: &[u8]) -> Result<Vec<u8>, String> {
-    judge.lend(Call::Plan, file, LEAST_ROOM, &plan_owed(&stock_truth(file)))
-}
-
-pub fn sheet_answer(judge: &mut Judge, file: &[u8]) -> Result<Vec<u8>, String> {
-    judge.lend(Call::Sheet, file, LEAST_ROOM, &sheet_owed(&stock_truth(file)))
+pub fn stock_answer(judge: &mut Judge, file: &[u8]) -> Result<Vec<u8>, String> {
+    judge.lend(Call::Stock, file, LEAST_ROOM, &stock_owed(&stock_truth(file)))
 }
 
 pub fn graph_examples(judge: &mut Judge) -> Trial {
@@ -70,10 +66,8 @@ pub fn stock_examples(judge: &mut Judge) -> Trial {
     for known in stocks() {
         let file = known.stock.file();
         judge.stock(&file)?;
-        let answer = sheet_answer(judge, &file)?;
-        one_of(known.name, &answer, &[known.sheet])?;
-        let answer = plan_answer(judge, &file)?;
-        one_of(known.name, &answer, &known.plans)?;
+        let answer = stock_answer(judge, &file)?;
+        one_of(known.name, &answer, &known.answers())?;
     }
     Ok(())
 }
@@ -127,9 +121,8 @@ pub fn edges(judge: &mut Judge) -> Trial {
     for room in [0, 1, 2_046, 2_047, 2_048, 2_049, 60_000] {
         let (g4, s7) = (graph(2, &G4).file(), stock(6, &S7, &[]).file());
         judge.lend(Call::Graph, &g4, room, &graph_owed(&graph_truth(&g4)))?;
-        judge.lend(Call::Plan, &s7, room, &plan_owed(&stock_truth(&s7)))?;
-        judge.lend(Call::Sheet, &s7, room, &sheet_owed(&stock_truth(&s7)))?;
-        judge.lend(Call::Sheet, b"", room, &sheet_owed(&stock_truth(b"")))?;
+        judge.lend(Call::Stock, &s7, room, &stock_owed(&stock_truth(&s7)))?;
+        judge.lend(Call::Stock, b"", room, &stock_owed(&stock_truth(b"")))?;
         judge.lend(Call::Budget(2), &s7, room, &budget_owed(&stock_truth(&s7), 2))?;
     }
     file_lengths(judge)
@@ -153,18 +146,20 @@ fn file_lengths(judge: &mut Judge) -> Trial {
 
 pub fn traps(judge: &mut Judge) -> Trial {
     let bare = stock(6, &S7, &[(0, 2), (3, 5)]).file();
-    let answer = plan_answer(judge, &bare)?;
-    one_of("S7 with lit 0-2 and 3-5", &answer, &[plan_file(&[(0, 1), (2, 3), (4, 5)])])?;
+    let answer = stock_answer(judge, &bare)?;
+    one_of("S7 with lit 0-2 and 3-5", &answer, &[printout(&[(0, 1), (2, 3), (4, 5)], 3, &[2; 6])])?;
     verdict(judge, &graph(2, &G4).file(), &path_file(&[0, 2, 1]), Verdict::No)?;
     verdict(judge, &graph(2, &G5).file(), &path_file(&[0, 2, 5]), Verdict::Yes)?;
     // the bud of 2 and 3, and from it over an arc the bud of 4 and 5
     let joined = graph(3, &[(0, 2), (3, 1), (2, 3), (2, 3), (2, 4), (5, 3), (4, 5), (4, 5)]).file();
     let answer = graph_answer(judge, &joined)?;
     one_of("two buds joined by an arc", &answer, &[barrier_file(&[1, 2, 3, 3, 3, 3])])?;
-    for lit in [&[][..], &[(0, 1)], &[(0, 2)], &[(1, 2)]] {
-        let triangle = stock(3, &[(0, 1), (0, 2), (1, 2)], lit).file();
-        let answer = sheet_answer(judge, &triangle)?;
-        one_of("S3 with a pair lit", &answer, &[sheet_file(1, &[0, 0, 0])])?;
+    let fits = [(0, 1), (0, 2), (1, 2)];
+    for lit in [&[][..], &fits[..1], &fits[1..2], &fits[2..]] {
+        let answer = stock_answer(judge, &stock(3, &fits, lit).file())?;
+        let plans = if lit.is_empty() { &fits[..] } else { lit };
+        let right: Vec<Vec<u8>> = plans.iter().map(|pair| printout(&[*pair], 1, &[0; 3])).collect();
+        one_of("S3 with a pair lit", &answer, &right)?;
     }
     judge.stock(&bare)
 }
@@ -173,15 +168,16 @@ pub fn traps(judge: &mut Judge) -> Trial {
 pub fn tallies(judge: &mut Judge) -> Trial {
     let (barred, open) = (graph(1, &[]).file(), graph(1, &[(0, 1), (0, 1)]).file());
     let chain = stock(4, &[(0, 1), (1, 2), (2, 3)], &[(1, 2)]).file();
+    let no_cameras = stock(0, &[], &[]).file();
     let to_itself = graph(1, &[(0, 0), (1, 1)]).file();
     let calls: [(Call, &[u8], Count); 13] = [
         (Call::Graph, &open, Count::Paths),
         (Call::Graph, &barred, Count::Barriers),
-        (Call::Plan, &chain, Count::Stocks),
-        (Call::Sheet, &chain, Count::Stocks),
+        (Call::Stock, &chain, Count::Stocks),
+        (Call::Stock, &no_cameras, Count::Stocks),
         (Call::Graph, b"", Count::Refusals),
-        (Call::Plan, &barred, Count::Refusals),
-        (Call::Sheet, b"\n", Count::Refusals),
+        (Call::Stock, &barred, Count::Refusals),
+        (Call::Stock, b"\n", Count::Refusals),
         (Call::Graph, &to_itself, Count::Refusals),
         (Call::Graph, &open, Count::Paths),
         (Call::Budget(0), &chain, Count::Stocks),
@@ -240,32 +236,62 @@ pub fn points_left_to_the_reader(judge: &mut Judge) -> Trial {
 
 const FOLDER: &str = concat!(env!("CARGO_MANIFEST_DIR"), "/../examples");
 
+/// A file's name without .hex, and what it may be.
+type Example = (String, Vec<Vec<u8>>);
+
+const CERTIFICATES: [(&str, [usize; 3], Verdict); 2] = [("G4", [0, 2, 1], Verdict::No), ("G5", [0, 2, 5], Verdict::Yes)];
+
+fn examples() -> Vec<Example> {
+    let mut all: Vec<Example> = Vec::new();
+    for KnownGraph { name, graph, answers } in graphs() {
+        all.extend([(format!("{name}.graph"), vec![graph.file()]), (format!("{name}.answer"), answers)]);
+    }
+    for known in stocks().into_iter().chain(isolated_examples()) {
+        let stock = (format!("{}.stock", known.name), vec![known.stock.file()]);
+        all.extend([stock, (format!("{}.answer", known.name), known.answers())]);
+    }
+    all.push(("S7_crlf.stock".to_string(), vec![cr_lf(&stock(6, &S7, &[]).file())]));
+    all.extend(S5_BUDGETS.map(|(most, answer)| (format!("S5.budget{most}"), vec![answer.to_vec()])));
+    for (name, arcs, right) in CERTIFICATES {
+        let certificate = (format!("{name}.certificate"), vec![path_file(&arcs)]);
+        all.extend([certificate, (format!("{name}.verdict"), vec![verdict_line(right)])]);
+    }
+    all
+}
+
 fn example(name: &str) -> Result<Vec<u8>, String> {
     fs::read(format!("{FOLDER}/{name}.hex")).map_err(|error| format!("examples/{name}.hex: {error}"))
 }
 
-fn example_is(name: &str, right: &[Vec<u8>]) -> Trial {
-    one_of(&format!("examples/{name}.hex"), &example(name)?, right)
+/// The names in the folder, rising.
+fn names_in_folder() -> Result<Vec<String>, String> {
+    let read = || -> std::io::Result<Vec<String>> {
+        fs::read_dir(FOLDER)?.map(|file| Ok(file?.file_name().to_string_lossy().into_owned())).collect()
+    };
+    let mut names = read().map_err(|error| format!("examples: {error}"))?;
+    names.sort_unstable();
+    Ok(names)
+}
+
+/// What the folder has to hold, rising: these and a README.
+fn names_of(examples: &[Example]) -> Vec<String> {
+    let files = examples.iter().map(|(name, _)| format!("{name}.hex"));
+    let mut names: Vec<String> = files.chain(["README.md".to_string()]).collect();
+    names.sort_unstable();
+    names
 }
 
 pub fn examples_folder(judge: &mut Judge) -> Trial {
-    for KnownGraph { name, graph, answers } in graphs() {
-        example_is(&format!("{name}.graph"), &[graph.file()])?;
-        example_is(&format!("{name}.answer"), &answers)?;
+    let all = examples();
+    let (found, right) = (names_in_folder()?, names_of(&all));
+    if found != right {
+        return Err(format!("examples/ holds {found:?}\nwhere these are known: {right:?}"));
     }
-    for KnownStock { name, stock, sheet, plans } in stocks().into_iter().chain(isolated_examples()) {
-        example_is(&format!("{name}.stock"), &[stock.file()])?;
-        example_is(&format!("{name}.sheet"), &[sheet])?;
-        example_is(&format!("{name}.plan"), &plans)?;
-    }
+    all.iter().try_for_each(|(name, right)| one_of(&format!("examples/{name}.hex"), &example(name)?, right))?;
     for (most, answer) in S5_BUDGETS {
-        example_is(&format!("S5.budget{most}"), &[answer.to_vec()])?;
         one_of("S5", &judge.budget(&example("S5.stock")?, most)?, &[answer.to_vec()])?;
     }
-    example_is("S7_crlf.stock", &[cr_lf(&example("S7.stock")?)])?;
-    for (name, arcs, right) in [("G4", [0, 2, 1], Verdict::No), ("G5", [0, 2, 5], Verdict::Yes)] {
-        example_is(&format!("{name}.certificate"), &[path_file(&arcs)])?;
-        example_is(&format!("{name}.verdict"), &[verdict_line(right)])?;
+    for (name, _, right) in CERTIFICATES {
         verdict(judge, &example(&format!("{name}.graph"))?, &example(&format!("{name}.certificate"))?, right)?;
     }
     Ok(())

@@ -1,8 +1,8 @@
-//! The engine as the tests see it: document 01's calls, and document 02's look-up and call with a budget.
+//! The engine as the tests see it: the calls and the look-up of documents 01 and 02.
 //!   Tally, Told, Verdict     the counts; a call's refusal number and answer size; what the check says
 //!   Searched                 what a call with a budget tells: the same, and the number of searches
 //!   Fit, Looked              two cameras as the look-up takes them; what it answers
-//!   Engine                   the five calls, and the look-up
+//!   Engine                   the four calls, and the look-up
 //!   linked, Library          the proved engine in its static libraries (only where they are linked, see build.rs)
 
 #[derive(Clone, Copy, Debug, Default, PartialEq)]
@@ -46,8 +46,8 @@ pub struct Looked {
 
 pub trait Engine {
     fn answer_graph(&self, file: &[u8], out: &mut [u8], tally: &mut Tally) -> Told;
-    fn plan(&self, file: &[u8], out: &mut [u8], tally: &mut Tally) -> Told;
-    fn sheet(&self, file: &[u8], out: &mut [u8], tally: &mut Tally) -> Told;
+    /// A stock: the plan, directly followed by the sheet.
+    fn stock(&self, file: &[u8], out: &mut [u8], tally: &mut Tally) -> Told;
     /// A stock, and the number of searches that are granted.
     fn budget(&self, file: &[u8], most: u32, out: &mut [u8], tally: &mut Tally) -> Searched;
     fn check(&self, graph: &[u8], certificate: &[u8]) -> Verdict;
@@ -80,8 +80,7 @@ mod library {
 
     extern "C" {
         fn lanes_graph(file: *const u8, file_len: usize, out: *mut u8, out_len: usize, tally: *mut [u32; 4]) -> u64;
-        fn lanes_plan(file: *const u8, file_len: usize, out: *mut u8, out_len: usize, tally: *mut [u32; 4]) -> u64;
-        fn lanes_sheet(file: *const u8, file_len: usize, out: *mut u8, out_len: usize, tally: *mut [u32; 4]) -> u64;
+        fn lanes_stock(file: *const u8, file_len: usize, out: *mut u8, out_len: usize, tally: *mut [u32; 4]) -> u64;
         fn lanes_budget(file: *const u8, file_len: usize, most: u32, out: *mut u8, out_len: usize, tally: *mut [u32; 4]) -> u64;
         fn lanes_check(graph: *const u8, graph_len: usize, certificate: *const u8, certificate_len: usize) -> u8;
         fn files_look_up(
@@ -121,12 +120,8 @@ mod library {
             call(lanes_graph, file, out, tally)
         }
 
-        fn plan(&self, file: &[u8], out: &mut [u8], tally: &mut Tally) -> Told {
-            call(lanes_plan, file, out, tally)
-        }
-
-        fn sheet(&self, file: &[u8], out: &mut [u8], tally: &mut Tally) -> Told {
-            call(lanes_sheet, file, out, tally)
+        fn stock(&self, file: &[u8], out: &mut [u8], tally: &mut Tally) -> Told {
+            call(lanes_stock, file, out, tally)
         }
 
         fn budget(&self, file: &[u8], most: u32, out: &mut [u8], tally: &mut Tally) -> Searched {

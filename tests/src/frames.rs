@@ -7,6 +7,9 @@
 //!   number                digits of a line as a number
 //!   file                  header, body lines and the end frame that counts them
 //!   graph_file ..         one function for each row of document 01's table, and one for the answer to a budget (document 02, L4)
+//!   printout              what a stock gets: the plan, directly followed by the sheet (document 02, L6)
+//!   plan_bytes, sheet_bytes    how long its halves are
+//!   halves, plan_in, sheet_in  an answer to a stock cut behind the plan; either half
 //! Each question is asked of any bytes whatever, so that a test can tell which of them a file fails beside the first.
 
 pub type Pair = (usize, usize);
@@ -176,4 +179,40 @@ pub fn budget_file(pairs: &[Pair], searches: usize, missing: usize) -> Vec<u8> {
 pub fn sheet_file(greatest: usize, marks: &[usize]) -> Vec<u8> {
     let numbered: Vec<Pair> = marks.iter().copied().enumerate().collect();
     file(&format!("41{greatest:02X}"), &pair_lines(0x43, &numbered), SHEET.end)
+}
+
+pub fn printout(pairs: &[Pair], greatest: usize, marks: &[usize]) -> Vec<u8> {
+    [plan_file(pairs), sheet_file(greatest, marks)].concat()
+}
+
+/// The bytes of a header of four digits, and of every other line, with their line feeds.
+const HEADER_BYTES: usize = 5;
+const LINE_BYTES: usize = 7;
+
+pub const fn plan_bytes(pairs: usize) -> usize {
+    HEADER_BYTES + LINE_BYTES * pairs + LINE_BYTES
+}
+
+pub const fn sheet_bytes(cameras: usize) -> usize {
+    HEADER_BYTES + LINE_BYTES * cameras + LINE_BYTES
+}
+
+/// Cut behind the first end frame of a plan; where there is none, nothing is behind it.
+pub fn halves(answer: &[u8]) -> (&[u8], &[u8]) {
+    let mut behind = 0;
+    for line in answer.split_inclusive(|byte| *byte == LF) {
+        behind += line.len();
+        if kind_of(line) == PLAN.end as usize {
+            break;
+        }
+    }
+    answer.split_at(behind)
+}
+
+pub fn plan_in(answer: &[u8]) -> &[u8] {
+    halves(answer).0
+}
+
+pub fn sheet_in(answer: &[u8]) -> &[u8] {
+    halves(answer).1
 }

@@ -85,7 +85,7 @@ pub fn of_engine() -> Vec<EngineGroup> {
         fixed("budgets: rooms", budget_trials::rooms),
         drawn("budgets: calls in a row", budget_trials::calls_in_a_row),
         drawn("self arcs: beside certificates", self_arc_trials::beside_certificates),
-        drawn("isolated cameras: known sheets", isolated_trials::known_sheets),
+        drawn("isolated cameras: known stocks", isolated_trials::known),
         fixed("isolated cameras: equal sheets", isolated_trials::equal_sheets),
         share("isolated cameras: other lit pairs", 10, isolated_trials::other_lit_pairs),
         share("isolated cameras: one in each place", 10, isolated_trials::one_in_each_place),
@@ -146,7 +146,7 @@ pub fn of_engine() -> Vec<EngineGroup> {
         fixed("budgets: every stock of up to five cameras", budget_trials::every_small_stock),
         drawn("isolated cameras: every set of them", isolated_trials::every_set),
         drawn("paths and barriers of every size", sizes::graphs),
-        drawn("sheets and plans of every size", sizes::stocks),
+        drawn("rows of every size", sizes::stocks),
         drawn("budgets: answers of every size", budget_trials::every_size),
         drawn("127 parts", large::many_parts),
         drawn("buds inside buds", large::nested_buds),
@@ -184,7 +184,7 @@ pub fn of_programs() -> Vec<ProgramGroup> {
         programs("programs: the largest files", true, program_trials::largest_files),
         programs("programs: bytes that are no digits", true, program_trials::other_bytes),
         programs("programs: middling graphs and stocks", true, program_trials::middling_files),
-        programs("programs: sheets, plans and budgets of every size", false, program_trials::stock_sizes),
+        programs("programs: printouts and budgets of every size", false, program_trials::stock_sizes),
         programs("programs: paths and barriers of every size", false, program_trials::graph_sizes),
     ]
 }

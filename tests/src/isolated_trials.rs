@@ -1,5 +1,5 @@
 //! What is tried with isolated cameras, those that have no fit (document 02, L2); elsewhere they are tried beside other things.
-//!   known_sheets          the known stocks, with all line ends and, where they are small, with every pairing lit
+//!   known                 the known stocks, with all line ends and, where they are small, with every pairing lit
 //!   equal_sheets          every stock of up to five cameras: equal sheets mean the same isolated cameras
 //!   other_lit_pairs       the sheet remains, whichever pairs are lit
 //!   one_in_each_place     an isolated camera put in at each place of a stock: no two sheets are equal
@@ -8,16 +8,16 @@
 //!   random_stocks         random stocks with isolated cameras
 //!   largest_stocks        127 cameras, most or a few of them isolated
 //!   three_apart           127 cameras and 3,900 fits, of which the first two or the last two are all that three cameras have
-//! Sheets are compared with one another as the engine gave them, whatever the trial says of their marks.
+//! Sheets are compared with one another as the engine gave them behind a plan, whatever the trial says of their marks.
 
-use crate::cases::{by_trial, one_of, plan_answer, sheet_answer};
+use crate::cases::{by_trial, one_of, stock_answer};
 use crate::exhaustive::every_fits;
-use crate::frames::{Pair, Text, SHEET};
+use crate::frames::{sheet_in, Pair, Text, SHEET};
 use crate::generate::{
     all_fits, ear_fits, nearly_largest_lit, placed, places_among, some_fits, some_lit, stock_of, stock_with_isolated,
 };
 use crate::judge::{shown, Call, Judge, Trial};
-use crate::known::{isolated_stocks, KnownStock};
+use crate::known::isolated_stocks;
 use crate::large::try_stock;
 use crate::shapes::{row, triangles_in_a_row};
 use crate::stock_trial::{all_pairings, includes, Standing, Stock, ISOLATED};
@@ -28,17 +28,16 @@ use std::collections::{BTreeMap, BTreeSet};
 /// Up to this size every pairing is lit.
 const FEW_CAMERAS: usize = 10;
 
-pub fn known_sheets(judge: &mut Judge) -> Trial {
-    for KnownStock { name, stock, sheet, plans } in isolated_stocks() {
-        let file = stock.file();
-        one_of(name, &sheet_answer(judge, &file)?, std::slice::from_ref(&sheet))?;
-        one_of(name, &plan_answer(judge, &file)?, &plans)?;
-        judge.made_stock(&stock)?;
+pub fn known(judge: &mut Judge) -> Trial {
+    for known in isolated_stocks() {
+        let stock = &known.stock;
+        one_of(known.name, &stock_answer(judge, &stock.file())?, &known.answers())?;
+        judge.made_stock(stock)?;
         if stock.cameras <= FEW_CAMERAS {
             for lit in all_pairings(stock.cameras, &stock.fits) {
                 let file = Stock { lit, ..stock.clone() }.file();
                 judge.stock(&file)?;
-                one_of(name, &sheet_answer(judge, &file)?, std::slice::from_ref(&sheet))?;
+                one_of(known.name, sheet_in(&stock_answer(judge, &file)?), std::slice::from_ref(&known.sheet))?;
             }
         }
     }
@@ -47,9 +46,9 @@ pub fn known_sheets(judge: &mut Judge) -> Trial {
 
 // ---- sheets compared with one another
 
-/// A sheet as the engine gives it; its marks are not judged.
+/// A sheet as the engine gives it; neither it nor the plan before it is judged.
 fn given_sheet(judge: &mut Judge, stock: &Stock) -> Result<Vec<u8>, String> {
-    judge.given(Call::Sheet, &stock.file())
+    judge.given(Call::Stock, &stock.file()).map(|answer| sheet_in(&answer).to_vec())
 }
 
 fn fault(what: &str, stock: &Stock, sheet: &[u8]) -> Trial {

@@ -28,8 +28,8 @@ use crate::random::Random;
 use crate::seen::{Came, Reading, Seen};
 use crate::stock_trial::{self, Stock};
 use crate::truth::{
-    budget_owed, graph_owed, graph_truth, look_up_owed, opening, plan_owed, sheet_owed, stock_truth, Count, GraphTruth, Owed,
-    StockTruth, MOST_SEARCHES, OVER_BUDGET,
+    budget_owed, graph_owed, graph_truth, look_up_owed, opening, stock_owed, stock_truth, Count, GraphTruth, Owed, StockTruth,
+    MOST_SEARCHES, OVER_BUDGET,
 };
 
 pub type Trial = Result<(), String>;
@@ -37,8 +37,7 @@ pub type Trial = Result<(), String>;
 #[derive(Clone, Copy, Debug, PartialEq)]
 pub enum Call {
     Graph,
-    Plan,
-    Sheet,
+    Stock,
     /// with the number of searches that are granted
     Budget(u32),
 }
@@ -48,8 +47,7 @@ impl Call {
     pub fn by(self, engine: &dyn Engine, file: &[u8], out: &mut [u8], tally: &mut Tally) -> Searched {
         let told = match self {
             Call::Graph => engine.answer_graph(file, out, tally),
-            Call::Plan => engine.plan(file, out, tally),
-            Call::Sheet => engine.sheet(file, out, tally),
+            Call::Stock => engine.stock(file, out, tally),
             Call::Budget(most) => return engine.budget(file, most, out, tally),
         };
         Searched { told, searches: 0 }
@@ -245,13 +243,11 @@ impl<'a> Judge<'a> {
             self.seen.stock(stock);
         }
         let (room, short) = self.rooms();
-        self.lend(Call::Plan, file, room, &plan_owed(truth))?;
-        self.lend(Call::Sheet, file, room, &sheet_owed(truth))?;
+        self.lend(Call::Stock, file, room, &stock_owed(truth))?;
         let most = self.some_most();
         self.budget_owing(file, most, truth)?;
         if let Some(room) = short {
-            self.lend(Call::Plan, file, room, &plan_owed(truth))?;
-            self.lend(Call::Sheet, file, room, &sheet_owed(truth))?;
+            self.lend(Call::Stock, file, room, &stock_owed(truth))?;
             self.lend(Call::Budget(most), file, room, &budget_owed(truth, most))?;
         }
         Ok(())
@@ -261,7 +257,7 @@ impl<'a> Judge<'a> {
     pub fn short_buffers(&mut self, file: &[u8]) -> Trial {
         let owed = Owed { number: 1, count: Count::Refusals, is_right: Box::new(|_| false) };
         let most = self.some_most();
-        [Call::Graph, Call::Plan, Call::Sheet, Call::Budget(most)]
+        [Call::Graph, Call::Stock, Call::Budget(most)]
             .into_iter()
             .try_for_each(|call| self.lend(call, file, LEAST_ROOM - 1, &owed).map(drop))
     }

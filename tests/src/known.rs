@@ -1,6 +1,7 @@
 //! Document 01's known graphs and stocks, G1 to G5 and S1 to S7, each with every answer that is right, and stocks with isolated cameras.
 //!   graphs, stocks          document 01's
 //!   isolated_stocks         stocks with cameras that have no fit (document 02, L2), each byte of their sheets written out
+//!   KnownStock::answers     what a stock may get: each of its plans, directly followed by its sheet
 //!   isolated_examples       those of them that examples/ has
 //!   budgets, large_budgets  these stocks and others with budgets (document 02, L4), each header written out; those that cost more
 //!   S5_BUDGETS              the answers to S5 that examples/ has, each byte written out
@@ -24,6 +25,12 @@ pub struct KnownStock {
     pub stock: Stock,
     pub sheet: Vec<u8>,
     pub plans: Vec<Vec<u8>>,
+}
+
+impl KnownStock {
+    pub fn answers(&self) -> Vec<Vec<u8>> {
+        self.plans.iter().map(|plan| [&plan[..], &self.sheet].concat()).collect()
+    }
 }
 
 pub const G3: [Pair; 2] = [(0, 2), (3, 1)];

@@ -29,7 +29,7 @@
 //!   sizes            answers of every size
 //!   large            the largest files
 //!   line_end_trials  line ends: every choice, wrong ones, damaged ones, and lengths
-//!   isolated_trials  cameras without a fit: known sheets, sheets compared, every set of them
+//!   isolated_trials  cameras without a fit: known stocks, sheets compared, every set of them
 //!   look_up_trials   a pair looked up among fits: whether it is found, and how many are looked at
 //!   lit_pair_trials  lit pairs that are fits, and such as are none
 //!   budget_trials    the call that stops after so many searches

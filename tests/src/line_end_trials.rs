@@ -7,7 +7,7 @@
 //!   largest_certificates    the longest path and the largest barrier, longer with CR LF than any answer
 //! What each file gets is told here too, where it is plain, and the trial is held to it.
 
-use crate::cases::{by_trial, graph_of_arcs, graph_refusal, one_of, plan_answer, sheet_answer, stock_refusal, verdict};
+use crate::cases::{by_trial, graph_of_arcs, graph_refusal, one_of, stock_answer, stock_refusal, verdict};
 use crate::engine::Verdict;
 use crate::frames::{file, path_file, stock_file, GREATEST_FILE};
 use crate::generate::{all_fits, nearly_largest_lit, random_graph, some_fits, stock_of};
@@ -30,8 +30,7 @@ pub fn known_files(judge: &mut Judge) -> Trial {
     for known in stocks() {
         for ended in every_choice(&known.stock.file()) {
             judge.stock(&ended)?;
-            one_of(known.name, &sheet_answer(judge, &ended)?, std::slice::from_ref(&known.sheet))?;
-            one_of(known.name, &plan_answer(judge, &ended)?, &known.plans)?;
+            one_of(known.name, &stock_answer(judge, &ended)?, &known.answers())?;
         }
     }
     verdict_of_all(judge, &graph(2, &G4).file(), &path_file(&[0, 2, 1]), Verdict::No)?;

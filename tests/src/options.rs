@@ -14,8 +14,8 @@ pub const USAGE: &str = "outside-tests [--seed N] [--files N] [--long] [--only T
   --files N           about that many random files with each seed
   --long              twenty times as many
   --only TEXT         only what has TEXT in its name; a failure where nothing has
-  --programs FOLDER   the programs lanes_graph, lanes_plan, lanes_sheet, lanes_budget and lanes_check of a folder; without it this
-                      binary stands in
+  --programs FOLDER   the programs lanes_graph, lanes_stock, lanes_budget and lanes_check of a folder; without it this binary
+                      stands in
   --valgrind          the programs under valgrind, on document 01's examples alone
   --proved            a failure at once where the engine is not the linked library, or where no folder of programs is given
 outside-tests --as NAME [--wrongly WHAT] [-- WORD ..]

@@ -1,29 +1,27 @@
-//! What the programs print (document 01, "Programs"; document 02, L4).
+//! What the programs print (document 01, "Programs"; document 02, L4 and L6).
 //!   GRAPH_PROGRAM ..               the names of the programs
 //!   program_of                     the one that prints what a call answers
 //!   refusal_line, verdict_line     7E and a number; 7A01 for yes, 7A00 for no
-//!   Print, print_of                which program printed, the kind that its first line opens with, and a number: that of the line where
-//!                                  it is the only one, otherwise the number of body lines
+//!   Print, prints_of               which program printed, the kind that its first line opens with, and a number: that of the line where
+//!                                  it is the only one, otherwise the number of body lines; of a plan and a sheet behind it, both
 //!   every_print                    all that the programs can come to: each refusal, each verdict, each size of answer
 
 use crate::engine::Verdict;
-use crate::frames::{kind_of, number, Text, BARRIER, BUDGET, PATH, PLAN, SHEET};
+use crate::frames::{halves, kind_of, number, Text, BARRIER, BUDGET, PATH, PLAN, SHEET};
 use crate::graph_trial::{CERTIFICATE_QUESTIONS, GRAPH_QUESTIONS};
 use crate::judge::Call;
 use crate::stock_trial::STOCK_QUESTIONS;
 use crate::truth::OVER_BUDGET;
 
 pub const GRAPH_PROGRAM: &str = "lanes_graph";
-pub const PLAN_PROGRAM: &str = "lanes_plan";
-pub const SHEET_PROGRAM: &str = "lanes_sheet";
+pub const STOCK_PROGRAM: &str = "lanes_stock";
 pub const BUDGET_PROGRAM: &str = "lanes_budget";
 pub const CHECK_PROGRAM: &str = "lanes_check";
 
 pub fn program_of(call: Call) -> &'static str {
     match call {
         Call::Graph => GRAPH_PROGRAM,
-        Call::Plan => PLAN_PROGRAM,
-        Call::Sheet => SHEET_PROGRAM,
+        Call::Stock => STOCK_PROGRAM,
         Call::Budget(_) => BUDGET_PROGRAM,
     }
 }
@@ -45,7 +43,12 @@ pub fn verdict_line(verdict: Verdict) -> Vec<u8> {
 
 pub type Print = (&'static str, usize, usize);
 
-pub fn print_of(program: &'static str, printed: &[u8]) -> Print {
+pub fn prints_of(program: &'static str, printed: &[u8]) -> Vec<Print> {
+    let (first, behind) = halves(printed);
+    [first, behind].into_iter().filter(|half| !half.is_empty()).map(|half| print_of(program, half)).collect()
+}
+
+fn print_of(program: &'static str, printed: &[u8]) -> Print {
     let text = Text::of(printed);
     let only_line = text.lines.len() == 1;
     (program, kind_of(text.header()), if only_line { number(text.header(), 2, 2) } else { text.body().len() })
@@ -54,14 +57,13 @@ pub fn print_of(program: &'static str, printed: &[u8]) -> Print {
 pub fn every_print() -> Vec<Print> {
     let refusals = |questions: &[u8], added: usize| questions.iter().map(|number| *number as usize + added).collect();
     let of_stock: Vec<usize> = refusals(&STOCK_QUESTIONS, 0);
-    let numbers: [(&str, u8, Vec<usize>); 12] = [
+    let numbers: [(&str, u8, Vec<usize>); 11] = [
         (GRAPH_PROGRAM, PATH.header, (1..=255).collect()),
         (GRAPH_PROGRAM, BARRIER.header, (1..=128).map(|pairs| 2 * pairs).collect()),
         (GRAPH_PROGRAM, REFUSAL, refusals(&GRAPH_QUESTIONS, 0)),
-        (PLAN_PROGRAM, PLAN.header, (0..=63).collect()),
-        (PLAN_PROGRAM, REFUSAL, of_stock.clone()),
-        (SHEET_PROGRAM, SHEET.header, (0..=127).collect()),
-        (SHEET_PROGRAM, REFUSAL, of_stock),
+        (STOCK_PROGRAM, PLAN.header, (0..=63).collect()),
+        (STOCK_PROGRAM, SHEET.header, (0..=127).collect()),
+        (STOCK_PROGRAM, REFUSAL, of_stock),
         (BUDGET_PROGRAM, BUDGET.header, (0..=63).collect()),
         (BUDGET_PROGRAM, REFUSAL, refusals(&[&[OVER_BUDGET], &STOCK_QUESTIONS[..]].concat(), 0)),
         (CHECK_PROGRAM, VERDICT, vec![0, 1]),

@@ -15,14 +15,14 @@
 //!   pieces              standard input that comes in pieces, also cut between CR and LF
 //!   middling_files      random graphs and stocks, with all line ends
 //!   graph_sizes         paths of every number of arcs and barriers on every number of mate pairs, each checked as it is and spoiled
-//!   stock_sizes         sheets of every number of cameras, plans and answers to budgets of every number of pairs
+//!   stock_sizes         printouts of every number of cameras and of every number of pairs, and answers to budgets of those
 //! The longest come first, so that a program that cuts is soon found.
 
 use crate::cases::{graph_of_arcs, one_of, FIT_BEHIND_LIT};
 use crate::damage::{BYTES, DIGITS};
 use crate::engine::Verdict;
 use crate::faults::{failing, graph_for_certificates, questions, Kind, KINDS};
-use crate::frames::{budget_file, file, path_file, plan_file, sheet_file, stock_file, Pair, Text, CR, GREATEST_FILE};
+use crate::frames::{budget_file, file, halves, path_file, plan_bytes, sheet_file, stock_file, Pair, Text, CR, GREATEST_FILE};
 use crate::generate::{all_fits, middling_graph, middling_stock, nearly_largest_lit, some_fits, stock_of, stock_with_isolated};
 use crate::graph_trial::SELF_ARC;
 use crate::judge::{shown, Trial};
@@ -49,9 +49,8 @@ pub fn examples(programs: &Programs, _: &mut Random) -> Trial {
         }
     }
     for known in stocks() {
-        let [plan, sheet, _] = programs.stock(&known.stock.file())?;
-        one_of(known.name, &plan, &known.plans)?;
-        one_of(known.name, &sheet, &[known.sheet])?;
+        let [printout, _] = programs.stock(&known.stock.file())?;
+        one_of(known.name, &printout, &known.answers())?;
     }
     let (g4, g5) = (graph(2, &G4).file(), graph(2, &G5).file());
     owed(&programs.check(&g4, &path_file(&[0, 2, 1]))?, verdict_line(Verdict::No))?;
@@ -61,9 +60,8 @@ pub fn examples(programs: &Programs, _: &mut Random) -> Trial {
 pub fn isolated_cameras(programs: &Programs, random: &mut Random) -> Trial {
     for known in isolated_stocks() {
         for file in all_ways(random, &known.stock.file()) {
-            let [plan, sheet, _] = programs.stock(&file)?;
-            one_of(known.name, &plan, &known.plans)?;
-            one_of(known.name, &sheet, std::slice::from_ref(&known.sheet))?;
+            let [printout, _] = programs.stock(&file)?;
+            one_of(known.name, &printout, &known.answers())?;
         }
     }
     (0..10).try_for_each(|_| {
@@ -253,9 +251,8 @@ pub fn line_ends(programs: &Programs, random: &mut Random) -> Trial {
     }
     for known in stocks() {
         for file in all_ways(random, &known.stock.file()) {
-            let [plan, sheet, _] = programs.stock(&file)?;
-            one_of(known.name, &plan, &known.plans)?;
-            one_of(known.name, &sheet, std::slice::from_ref(&known.sheet))?;
+            let [printout, _] = programs.stock(&file)?;
+            one_of(known.name, &printout, &known.answers())?;
         }
     }
     let g4 = cr_lf(&graph(2, &G4).file());
@@ -282,11 +279,11 @@ fn no_line_ends(programs: &Programs) -> Trial {
 }
 
 /// Files handed to every program, the check's graph and its certificate each beside one that is right. What was printed, in this order.
-fn everywhere(programs: &Programs, graph: &[u8], stock: &[u8], certificate: &[u8]) -> Result<[Vec<u8>; 6], String> {
+fn everywhere(programs: &Programs, graph: &[u8], stock: &[u8], certificate: &[u8]) -> Result<[Vec<u8>; 5], String> {
     let [right, _, answer] = known_files();
-    let [plan, sheet, budget] = programs.stock(stock)?;
+    let [printout, budget] = programs.stock(stock)?;
     let [of_graph, of_certificate] = [programs.check(graph, &answer)?, programs.check(&right, certificate)?];
-    Ok([programs.graph(graph)?, plan, sheet, budget, of_graph, of_certificate])
+    Ok([programs.graph(graph)?, printout, budget, of_graph, of_certificate])
 }
 
 /// The same where all are refused with one number.
@@ -444,10 +441,11 @@ pub fn graph_sizes(programs: &Programs, _: &mut Random) -> Trial {
 pub fn stock_sizes(programs: &Programs, _: &mut Random) -> Trial {
     rows_of_every_size().try_for_each(|(stock, standing)| {
         let file = stock.file();
-        let [plan, sheet, budget] = programs.stock(&file)?;
+        let [printout, budget] = programs.stock(&file)?;
         let pairs = vec![(0, 0); standing.greatest];
         known_to_be(budget.len() == budget_file(&pairs, 0, 0).len(), &budget, &file)?;
-        known_to_be(sheet == sheet_file(standing.greatest, &standing.marks), &sheet, &file)?;
-        known_to_be(plan.len() == plan_file(&pairs).len(), &plan, &file)
+        let (plan, sheet) = halves(&printout);
+        known_to_be(sheet == sheet_file(standing.greatest, &standing.marks), sheet, &file)?;
+        known_to_be(plan.len() == plan_bytes(standing.greatest), plan, &file)
     })
 }

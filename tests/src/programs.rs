@@ -1,7 +1,7 @@
-//! The five programs, run as a technician runs them (document 01, "Programs"; document 02, L4), each print judged whole.
+//! The four programs, run as a technician runs them (document 01, "Programs"; document 02, L4 and L6), each print judged whole.
 //!   Place               where they are: in a folder, or this binary standing in for them, rightly or wrongly
 //!   Programs            a place, and what starts them, as valgrind
-//!   graph, stock        a file handed in on standard input; what is printed, for a stock by its three programs, with 64 searches
+//!   graph, stock        a file handed in on standard input; what is printed, for a stock by its two programs, with 64 searches
 //!   budget              a stock, and words for the number of searches; what is printed
 //!   graph_in_pieces, stock_in_pieces    the same, each piece after the one before was read
 //!   check, check_given  graph.hex and cert.hex, each a file, nothing, or a link that leads nowhere (Given)
@@ -9,10 +9,10 @@
 
 use crate::graph_trial;
 use crate::judge::{shown, Call, Trial};
-use crate::prints::{every_print, print_of, program_of, refusal_line, verdict_line, Print, CHECK_PROGRAM};
+use crate::prints::{every_print, prints_of, program_of, refusal_line, verdict_line, Print, CHECK_PROGRAM};
 use crate::reference::Parts;
 use crate::stand_in::{answered, WRONG_STATUS};
-use crate::truth::{budget_owed, graph_owed, graph_truth, plan_owed, sheet_owed, stock_truth, Owed};
+use crate::truth::{budget_owed, graph_owed, graph_truth, stock_owed, stock_truth, Owed};
 use std::cell::{Cell, RefCell};
 use std::collections::BTreeSet;
 use std::ffi::{OsStr, OsString};
@@ -107,8 +107,8 @@ impl Programs {
         self.graph_in_pieces(&[file])
     }
 
-    /// Plan, sheet, and what 64 searches come to.
-    pub fn stock(&self, file: &[u8]) -> Result<[Vec<u8>; 3], String> {
+    /// The plan and the sheet in one, and what 64 searches come to.
+    pub fn stock(&self, file: &[u8]) -> Result<[Vec<u8>; 2], String> {
         self.stock_in_pieces(&[file])
     }
 
@@ -121,12 +121,10 @@ impl Programs {
         self.answer(Call::Graph, &[], pieces, || graph_truth(&file), graph_owed)
     }
 
-    pub fn stock_in_pieces(&self, pieces: &[&[u8]]) -> Result<[Vec<u8>; 3], String> {
+    pub fn stock_in_pieces(&self, pieces: &[&[u8]]) -> Result<[Vec<u8>; 2], String> {
         let file = pieces.concat();
-        let truth = || stock_truth(&file);
-        let plan = self.answer(Call::Plan, &[], pieces, truth, plan_owed)?;
-        let sheet = self.answer(Call::Sheet, &[], pieces, truth, sheet_owed)?;
-        Ok([plan, sheet, self.budget_in_pieces(&[b"64"], pieces)?])
+        let printout = self.answer(Call::Stock, &[], pieces, || stock_truth(&file), stock_owed)?;
+        Ok([printout, self.budget_in_pieces(&[b"64"], pieces)?])
     }
 
     fn budget_in_pieces(&self, words: &[&[u8]], pieces: &[&[u8]]) -> Printed {
@@ -210,7 +208,7 @@ impl Programs {
             let not_run = if stood_in { NOT_RUN } else { "" };
             return Err(format!("{not_run}{told} ended with {}, given\n{}", ended.status, shown(&pieces.concat())));
         }
-        self.met.borrow_mut().insert(print_of(name, &ended.stdout));
+        self.met.borrow_mut().extend(prints_of(name, &ended.stdout));
         Ok(ended.stdout)
     }
 

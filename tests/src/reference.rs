@@ -9,7 +9,7 @@
 use crate::arc_matching;
 use crate::blossom;
 use crate::engine::{Engine, Fit, Looked, Searched, Tally, Told, Verdict};
-use crate::frames::{barrier_file, budget_file, path_file, plan_file, sheet_file, Pair};
+use crate::frames::{barrier_file, budget_file, path_file, printout, Pair};
 use crate::graph_trial::{self, canonical, Certificate, Graph};
 use crate::stock_trial::{self, Standing, Stock};
 
@@ -39,7 +39,8 @@ pub type LookUp = Box<dyn Fn(&[u8], &[u8], Fit) -> Looked>;
 pub type Search = Box<dyn Fn(&Stock, u32) -> Reached>;
 // by the engine's other parts
 pub type BudgetCall = Box<dyn Fn(&Parts, &[u8], u32, &mut [u8], &mut Tally) -> Searched>;
-pub type GraphCall = Box<dyn Fn(&Parts, &[u8], &mut [u8], &mut Tally) -> Told>;
+pub type FileCall = Box<dyn Fn(&Parts, &[u8], &mut [u8], &mut Tally) -> Told>;
+pub type Printing = Box<dyn Fn(&Parts, &Stock) -> Vec<u8>>;
 pub type Check = Box<dyn Fn(&Parts, &[u8], &[u8]) -> Verdict>;
 pub type CertificateReader = Box<dyn Fn(&Graph, &[u8]) -> Result<Certificate, u8>>;
 
@@ -52,6 +53,8 @@ pub struct Parts {
     pub answer: fn(&Graph) -> GraphAnswer,
     pub plan: fn(&Stock) -> Vec<Pair>,
     pub standing: Box<dyn Fn(&Stock) -> Standing>,
+    /// what a stock gets, of its plan and its standing
+    pub printout: Printing,
     pub holds: fn(&Graph, &Certificate) -> bool,
     pub added_for_certificates: u8,
     pub raise: fn(u32) -> u32,
@@ -64,9 +67,10 @@ pub struct Parts {
     /// what a stock comes to within a number of searches
     pub search: Search,
     pub reached_file: fn(&Reached) -> Vec<u8>,
-    // calls, whole: with a budget, of a graph, and the check
+    // calls, whole: of a graph, of a stock, of one with a budget, and the check
+    pub answer_graph: FileCall,
+    pub stock: FileCall,
     pub budget: BudgetCall,
-    pub answer_graph: GraphCall,
     pub check: Check,
 }
 
@@ -81,6 +85,7 @@ impl Parts {
             answer,
             plan,
             standing: Box::new(standing),
+            printout: Box::new(both_halves),
             holds: graph_trial::certificate_holds,
             added_for_certificates: 40,
             raise: |count| count.saturating_add(1),
@@ -90,8 +95,9 @@ impl Parts {
             look_up: Box::new(look_up),
             search: Box::new(search),
             reached_file: |reached| budget_file(&reached.pairs, reached.searches, reached.missing),
-            budget: Box::new(budget),
             answer_graph: Box::new(answer_graph),
+            stock: Box::new(stock),
+            budget: Box::new(budget),
             check: Box::new(check),
         }
     }
@@ -139,6 +145,12 @@ pub fn standing(stock: &Stock) -> Standing {
     blossom::standing(stock.cameras, &stock.fits)
 }
 
+/// The plan, directly followed by the sheet.
+pub fn both_halves(parts: &Parts, stock: &Stock) -> Vec<u8> {
+    let Standing { greatest, marks } = (parts.standing)(stock);
+    printout(&(parts.plan)(stock), greatest, &marks)
+}
+
 pub fn write(answer: &[u8], out: &mut [u8]) -> Told {
     out[..answer.len()].copy_from_slice(answer);
     Told { number: 0, size: answer.len() }
@@ -168,6 +180,10 @@ pub fn search(stock: &Stock, most: u32) -> Reached {
     }
     let left_over = partner.iter().filter(|other| other.is_none()).count();
     Reached { pairs: blossom::pairs(&partner), searches, missing: if found { left_over / 2 } else { 0 } }
+}
+
+pub fn stock(parts: &Parts, file: &[u8], out: &mut [u8], tally: &mut Tally) -> Told {
+    parts.answer_stock(file, out, tally, |stock| (parts.printout)(parts, stock))
 }
 
 /// Question 1, then 15, then the file's.
@@ -215,15 +231,8 @@ impl Engine for Parts {
         (self.answer_graph)(self, file, out, tally)
     }
 
-    fn plan(&self, file: &[u8], out: &mut [u8], tally: &mut Tally) -> Told {
-        self.answer_stock(file, out, tally, |stock| plan_file(&(self.plan)(stock)))
-    }
-
-    fn sheet(&self, file: &[u8], out: &mut [u8], tally: &mut Tally) -> Told {
-        self.answer_stock(file, out, tally, |stock| {
-            let standing = (self.standing)(stock);
-            sheet_file(standing.greatest, &standing.marks)
-        })
+    fn stock(&self, file: &[u8], out: &mut [u8], tally: &mut Tally) -> Told {
+        (self.stock)(self, file, out, tally)
     }
 
     fn budget(&self, file: &[u8], most: u32, out: &mut [u8], tally: &mut Tally) -> Searched {

@@ -8,7 +8,7 @@
 //!   of_every_size            graphs with answers of every number of lines
 //!   spoiled                  an answer changed at its end, so that it is none
 //!   row                      cameras in a row, each fitting the next, one pair short of the greatest number
-//!   rows_of_every_size       those with sheets of every number of cameras, and plans of every number of pairs
+//!   rows_of_every_size       rows of every number of cameras, and of every number of pairs among 127
 //!   triangles_in_a_row       triangles, each joined to the next
 
 use crate::engine::Verdict;
@@ -144,8 +144,8 @@ pub fn row(cameras: usize, in_row: usize) -> (Stock, Standing) {
 
 /// Rows of 127 cameras to none; then 63 pairs to none among 127 cameras, the others alone.
 pub fn rows_of_every_size() -> impl Iterator<Item = (Stock, Standing)> {
-    let sheets = (0..=127).rev().map(|cameras| row(cameras, cameras));
-    sheets.chain((0..=63).rev().map(|pairs| row(127, 2 * pairs)))
+    let whole = (0..=127).rev().map(|cameras| row(cameras, cameras));
+    whole.chain((0..=63).rev().map(|pairs| row(127, 2 * pairs)))
 }
 
 /// 42 triangles, each joined to the next by a fit between a camera of each. The pairs of those cameras are lit, but for the first few.

@@ -1,6 +1,6 @@
 //! Answers of every size, from one line to the longest.
 //!   graphs     paths of every number of arcs and barriers on every number of mate pairs, each checked as it is and spoiled
-//!   stocks     sheets of every number of cameras, plans of every number of pairs
+//!   stocks     rows of every number of cameras, and of every number of pairs
 
 use crate::generate::shuffled_graph;
 use crate::judge::{Judge, Trial};

@@ -7,7 +7,7 @@
 
 use crate::engine::{Engine, Tally, Told, Verdict};
 use crate::judge::{Call, LEAST_ROOM};
-use crate::prints::{refusal_line, verdict_line, BUDGET_PROGRAM, CHECK_PROGRAM, GRAPH_PROGRAM, PLAN_PROGRAM, SHEET_PROGRAM};
+use crate::prints::{refusal_line, verdict_line, BUDGET_PROGRAM, CHECK_PROGRAM, GRAPH_PROGRAM, STOCK_PROGRAM};
 use std::fs::File;
 use std::io::{Read, Result as Done};
 
@@ -70,8 +70,7 @@ pub fn printed(engine: &dyn Engine, program: &str, words: &[Vec<u8>], manner: &M
     let call = match program {
         CHECK_PROGRAM => return Ok((manner.print)(checked(engine, manner)?)),
         GRAPH_PROGRAM => Call::Graph,
-        PLAN_PROGRAM => Call::Plan,
-        SHEET_PROGRAM => Call::Sheet,
+        STOCK_PROGRAM => Call::Stock,
         BUDGET_PROGRAM => Call::Budget((manner.granted)(words)),
         _ => panic!("there is no program {program}"),
     };

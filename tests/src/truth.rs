@@ -2,7 +2,7 @@
 //!   GraphTruth, graph_truth    refusal, or the graph and whether it has a path, or else its canonical classes
 //!   StockTruth, stock_truth    refusal, or the stock and its standing
 //!   Owed                       what a call owes: refusal number, the count that rises, and whether an answer is right
-//!   graph_owed, plan_owed, sheet_owed
+//!   graph_owed, stock_owed
 //!   budget_owed                the same of a call with a budget (document 02, L4)
 //!   MOST_SEARCHES, OVER_BUDGET the largest budget, and the question that asks for it
 //!   Numbers, numbers_within    pairs, searches and missing lanes that a budget comes to
@@ -11,7 +11,7 @@
 use crate::arc_matching;
 use crate::blossom;
 use crate::engine::{Fit, Looked};
-use crate::frames::{barrier_file, budget_file, path_file, plan_file, sheet_file, Text, BARRIER, BUDGET, PATH, PLAN};
+use crate::frames::{barrier_file, budget_file, path_file, plan_bytes, plan_file, sheet_file, Text, BARRIER, BUDGET, PATH, PLAN};
 use crate::graph_trial::{self, canonical, is_wanted, mate, Certificate, Graph};
 use crate::stock_trial::{self, is_plan, is_rising_pairing, Standing, Stock};
 
@@ -87,21 +87,11 @@ pub fn graph_owed(truth: &GraphTruth) -> Owed<'_> {
     }
 }
 
-pub fn plan_owed(truth: &StockTruth) -> Owed<'_> {
+pub fn stock_owed(truth: &StockTruth) -> Owed<'_> {
     match truth {
         StockTruth::Refused(number) => refused(*number),
         StockTruth::Accepted(stock, standing) => {
-            Owed { number: 0, count: Count::Stocks, is_right: Box::new(|answer| is_plan_answer(stock, standing, answer)) }
-        }
-    }
-}
-
-pub fn sheet_owed(truth: &StockTruth) -> Owed<'_> {
-    match truth {
-        StockTruth::Refused(number) => refused(*number),
-        StockTruth::Accepted(_, standing) => {
-            let sheet = sheet_file(standing.greatest, &standing.marks);
-            Owed { number: 0, count: Count::Stocks, is_right: Box::new(move |answer| answer == sheet) }
+            Owed { number: 0, count: Count::Stocks, is_right: Box::new(|answer| is_stock_answer(stock, standing, answer)) }
         }
     }
 }
@@ -146,10 +136,19 @@ fn is_path_answer(graph: &Graph, answer: &[u8]) -> bool {
     }
 }
 
-/// The answer is exactly the frames of some plan.
-fn is_plan_answer(stock: &Stock, standing: &Standing, answer: &[u8]) -> bool {
-    let pairs = Text::of(answer).pairs(PLAN.bodies[0]);
-    answer == plan_file(&pairs) && is_plan(stock, standing.greatest, &pairs)
+/// The answer is exactly the frames of some plan and, from the place that the greatest number of pairs gives, those of the sheet.
+fn is_stock_answer(stock: &Stock, standing: &Standing, answer: &[u8]) -> bool {
+    let Standing { greatest, marks } = standing;
+    let Some((plan, sheet)) = answer.split_at_checked(plan_bytes(*greatest)) else {
+        return false;
+    };
+    is_plan_half(stock, *greatest, plan) && sheet == sheet_file(*greatest, marks)
+}
+
+/// Exactly the frames of some plan.
+fn is_plan_half(stock: &Stock, greatest: usize, plan: &[u8]) -> bool {
+    let pairs = Text::of(plan).pairs(PLAN.bodies[0]);
+    plan == plan_file(&pairs) && is_plan(stock, greatest, &pairs)
 }
 
 /// The answer is exactly the frames of some pairing with these numbers that keeps lit cameras, and is the lit pairs where none is gained.

@@ -4,11 +4,11 @@
 //!   manner           that of a program, right or with a slip
 
 use crate::engine::Engine;
-use crate::frames::{path_file, CR, GREATEST_FILE, LF};
+use crate::frames::{path_file, plan_in, CR, GREATEST_FILE, LF};
 use crate::graph_trial::{is_self_arc, read_in_order, Graph, SELF_ARC};
 use crate::judge::Call;
 use crate::line_ends::{cr_lf, replaced, CR_LF};
-use crate::prints::{refusal_line, BUDGET_PROGRAM, CHECK_PROGRAM, GRAPH_PROGRAM, PLAN_PROGRAM, SHEET_PROGRAM};
+use crate::prints::{refusal_line, BUDGET_PROGRAM, CHECK_PROGRAM, GRAPH_PROGRAM, STOCK_PROGRAM};
 use crate::stand_in::{answered, granted, number_in, read_all, Manner, CERTIFICATE_FILE, GRAPH_FILE, WRONG_STATUS};
 use crate::wrong_line_ends::{any_return_ends, returns_refused};
 use std::io::{Read, Result as Done};
@@ -19,20 +19,19 @@ pub struct WrongProgram {
     pub manner: Manner,
 }
 
-const EACH: [&str; 5] = [GRAPH_PROGRAM, PLAN_PROGRAM, SHEET_PROGRAM, BUDGET_PROGRAM, CHECK_PROGRAM];
-const ANSWERING: [&str; 4] = [GRAPH_PROGRAM, PLAN_PROGRAM, SHEET_PROGRAM, BUDGET_PROGRAM];
+const EACH: [&str; 4] = [GRAPH_PROGRAM, STOCK_PROGRAM, BUDGET_PROGRAM, CHECK_PROGRAM];
+const ANSWERING: [&str; 3] = [GRAPH_PROGRAM, STOCK_PROGRAM, BUDGET_PROGRAM];
 
 type Slip = (&'static str, fn(Manner) -> Manner);
 
 pub fn all() -> Vec<WrongProgram> {
-    let lists: [(&[&'static str], &[Slip]); 15] = [
+    let lists: [(&[&'static str], &[Slip]); 14] = [
         (&EACH, &READING),
         (&EACH, &PRINTING),
         (&ANSWERING, &ANSWERS),
         (&[GRAPH_PROGRAM], &[("cuts answers at 1,024 bytes", cut::<1_024>), ("cuts answers at 1,800 bytes", cut::<1_800>)]),
-        (&[PLAN_PROGRAM], &[("cuts answers at 448 bytes", cut::<448>)]),
-        (&[SHEET_PROGRAM], &[("cuts answers at 896 bytes", cut::<896>)]),
-        (&[SHEET_PROGRAM], &OF_MARKS),
+        (&[STOCK_PROGRAM], &[("cuts answers at 1,024 bytes", cut::<1_024>), ("cuts answers at 1,353 bytes", cut::<1_353>)]),
+        (&[STOCK_PROGRAM], &OF_MARKS),
         (&[BUDGET_PROGRAM], &[("cuts answers at 456 bytes", cut::<456>)]),
         (&[BUDGET_PROGRAM], &OF_WORDS),
         (&[BUDGET_PROGRAM], &OF_NUMBERS),
@@ -335,7 +334,7 @@ const OF_NUMBERS: [Slip; 12] = [
 const OF_BUDGETS: [Slip; 7] = [
     ("puts question 15 after the stock's", |right| Manner { answered: fifteen_last, ..right }),
     ("puts question 15 after an empty input", |right| Manner { answered: fifteen_after_input, ..right }),
-    ("prints the plan", |right| Manner { answered: |engine, _, file| answered(engine, Call::Plan, file), ..right }),
+    ("prints the plan", |right| Manner { answered: |engine, _, file| planned(engine, file), ..right }),
     ("prints the plan where all is granted", |right| Manner { answered: plan_for_all, ..right }),
     ("prints 51 for 61", |right| Manner { print: |text| replaced_kind(text, b"61", b"51"), ..right }),
     ("prints 5F for 6F", |right| Manner { print: |text| replaced_kind(text, b"6F", b"5F"), ..right }),
@@ -343,7 +342,7 @@ const OF_BUDGETS: [Slip; 7] = [
 ];
 
 fn fifteen_last(engine: &dyn Engine, call: Call, file: &[u8]) -> Result<Vec<u8>, u8> {
-    answered(engine, Call::Plan, file)?;
+    answered(engine, Call::Stock, file)?;
     answered(engine, call, file)
 }
 
@@ -355,7 +354,15 @@ fn fifteen_after_input(engine: &dyn Engine, call: Call, file: &[u8]) -> Result<V
 }
 
 fn plan_for_all(engine: &dyn Engine, call: Call, file: &[u8]) -> Result<Vec<u8>, u8> {
-    answered(engine, if call == Call::Budget(64) { Call::Plan } else { call }, file)
+    if call == Call::Budget(64) {
+        planned(engine, file)
+    } else {
+        answered(engine, call, file)
+    }
+}
+
+fn planned(engine: &dyn Engine, file: &[u8]) -> Result<Vec<u8>, u8> {
+    answered(engine, Call::Stock, file).map(|printout| plan_in(&printout).to_vec())
 }
 
 /// The lines that open with a kind, with another one.

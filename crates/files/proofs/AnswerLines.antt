@@ -3,7 +3,8 @@
 --   class-lines, mark-lines, path-lines         document 03's lines are such lines
 --   plan-text, budget-text                      and so are a plan's and a budget's, by first cameras, the second ones looked up
 --   plan-size, budget-size, sheet-size          how many bytes a plan, a budget's answer and a standing sheet take
---   first-written                               three parts written one behind the other from the front on, as document 03 has it
+--   half-written                                a plan or a standing sheet written: a header of four digits, lines and an end frame
+--   front-written, first-written                a text written at the front, as document 03 has it; the same of three parts
 use mathlib.Core.Path.{_≡_, refl, ap, sym, _∙_}
 use mathlib.Core.List.{List, [], _∷_, _++_}
 use Prim.Native.Nat.{ℕ, suc, _+_, _*_, _≤_, _<_}
@@ -11,13 +12,13 @@ use native.Mathlib.Omega.{arith}
 use native.Mathlib.Numerals.{add-one}
 use lib.ListN.{length, getD, drop, length-append, drop-of-length-le}
 use lib.Seq.{length-sets, drop-cons}
-use Rattle.formats.specs.Kinds.{budgetEnd, budgetKind, classKind, markKind, pairKind, planEnd, planKind, sheetEnd, sheetKind, stepKind}
+use Rattle.formats.specs.Kinds.{budgetEnd, budgetKind, classKind, markKind, pairKind, planEnd, planKind, stepKind}
 use Rattle.counting.specs.Pairs.{Pair, zipPairs}
 use Rattle.counting.proofs.Zips.{zip-length}
 use Rattle.frames.specs.Frames.{frame4, frame6, frame8, frameOf4}
 use Rattle.frames.specs.Writes.{Written}
 use Rattle.frames.proofs.Writes.{written-rest, written-then, written-over, hexBytes-length, frame6-length}
-use Rattle.files.specs.StockFile.{markLines, planLines, planText, budgetText}
+use Rattle.files.specs.StockFile.{markLines, sheetWith, planLines, planText, budgetText}
 use Rattle.files.specs.CertificateFile.{pathLines, classLines}
 use Rattle.files.specs.Answers.{eachLine, Writing, WrittenFirst}
 use Rattle.files.proofs.Scans.{drop-next}
@@ -103,10 +104,17 @@ budget-size k m ps = simp (length-append, hexBytes-length) (omega (arith, plan-l
 mark-lines-length : (u : ℕ) (ms : List ℕ) → length (markLines u ms) ≡ 7 * length ms
 mark-lines-length u ms = rw (mark-lines u ms) at (each-length (frame6 markKind) u ms (frame6-length markKind))
 
-pub sheet-size : (pairs cameras : ℕ) (ms : List ℕ) → length (frame4 sheetKind pairs ++ markLines 0 ms ++ frameOf4 sheetEnd cameras) ≡ 12 + 7 * length ms
-sheet-size k n ms = simp (length-append, hexBytes-length) (omega (arith, mark-lines-length 0 ms))
+pub sheet-size : (pairs : ℕ) (ms : List ℕ) → length (sheetWith pairs ms) ≡ 12 + 7 * length ms
+sheet-size k ms = simp (length-append, hexBytes-length) (omega (arith, mark-lines-length 0 ms))
 
 -- THREE PARTS: header, body and end frame
+pub half-written : {l₀ l₁ l₂ l₃ x y z : List ℕ} {at k p q r : ℕ} → Written l₀ at 5 x l₁ p → Written l₁ p k y l₂ q → Written l₂ q 7 z l₃ r →
+    Written l₀ at (12 + k) (x ++ y ++ z) l₃ r
+half-written {k = k} u v w = let e : 5 + k + 7 ≡ 12 + k = omega arith in rw e at (written-then (written-then u v) w)
+
+pub front-written : {before text after : List ℕ} {size r : ℕ} → Written before 0 size text after r → size ≤ length before → WrittenFirst text before after r
+front-written w h = let o = written-over w h in record { bytes = o .0; told = o .1 }
+
 pub first-written : {l₀ l₁ l₂ l₃ x y z : List ℕ} {a b c p q r : ℕ} → Written l₀ 0 a x l₁ p → Written l₁ p b y l₂ q → Written l₂ q c z l₃ r →
     a + b + c ≤ length l₀ → WrittenFirst (x ++ y ++ z) l₀ l₃ r
-first-written u v w h = let o = written-over (written-then (written-then u v) w) h in record { bytes = o .0; told = o .1 }
+first-written u v w h = front-written (written-then (written-then u v) w) h

@@ -9,6 +9,7 @@
 --   SameLines        files of the same lines, whichever ends the lines have
 --   SelfArcs         graph files where an arc may lead from a node to itself
 --   AcceptedFiles    what the questions settle of a file
+--   PlanBytes        what a plan's bytes tell
 --   SheetBytes       what a standing sheet's bytes tell
 --   BudgetBytes      what a budget's bytes tell
 --   GraphFiles       the questions of a graph file
@@ -26,6 +27,7 @@ pub mod Asked
 pub mod SameLines
 pub mod SelfArcs
 pub mod AcceptedFiles
+pub mod PlanBytes
 pub mod SheetBytes
 pub mod BudgetBytes
 pub mod GraphFiles

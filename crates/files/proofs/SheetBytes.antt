@@ -1,4 +1,6 @@
 -- A standing sheet's bytes tell its number of cameras, its greatest number of pairs and every mark.
+--   sheet-found                   a number of pairs and marks that were found, written as a sheet; how many bytes it takes
+--   plan-sheet-size               how many bytes it takes behind a plan, with that
 --   sheets-alike, alike-sheets    two sheets are the same bytes exactly when cameras, greatest number and marks are
 --   sheet-number                  the number in its header is the greatest number of pairs
 --   sheet-line                    camera u's line, 5 + 7 * u bytes from the front, has u and its mark
@@ -9,7 +11,7 @@ use mathlib.Core.List.{List, [], _∷_, _++_}
 use Prim.Native.Nat.{ℕ, zero, suc, _+_, _*_, _/_, _%_, _≤_, _<_}
 use native.Mathlib.Omega.{arith}
 use lib.Dec.{eqb}
-use lib.ListN.{length, getD, drop}
+use lib.ListN.{length, getD, drop, length-append}
 use lib.Seq.{drop-cons, drop-drop}
 use borrow.Author.Tests.{eqb-true, eq-eqb}
 use Rattle.formats.specs.Kinds.{markKind, sheetEnd, sheetKind}
@@ -22,7 +24,8 @@ use Rattle.frames.specs.Frames.{hexFrom, hexAt, digitByte, hexBytes, frame4, fr
 use Rattle.frames.proofs.Writes.{two-value}
 use Rattle.matching.specs.Stock.{Stock, greatest, markOf, marksFrom, marksOf}
 use Rattle.matching.proofs.Marks.{mark-low}
-use Rattle.files.specs.StockFile.{markLines, sheetText, alike}
+use Rattle.files.specs.StockFile.{markLines, sheetText, sheetWith, alike, planText, planAndSheet}
+use Rattle.files.proofs.AnswerLines.{plan-size, sheet-size}
 
 -- DIGITS
 two-digits : (x y : ℕ) → x < 256 → y < 256 → digitByte (x / 16 % 16) ≡ digitByte (y / 16 % 16) → digitByte (x % 16) ≡ digitByte (y % 16) → x ≡ y
@@ -93,6 +96,17 @@ is-same [] = refl
 is-same (x ∷ xs) = and-both _ _ (eq-eqb x x refl) (is-same xs)
 
 -- SHEETS
+pub sheet-found : (n : ℕ) (fs : List Pair) → (sheetWith (greatest fs) (marksOf n fs) ≡ sheetText n fs) × (length (sheetText n fs) ≡ 12 + 7 * n)
+sheet-found n fs =
+    let long : length (marksOf n fs) ≡ n = marks-length fs (below n) ∙ length-up 0 n in
+    let same : sheetWith (greatest fs) (marksOf n fs) ≡ sheetText n fs =
+    ap (λ (k : ℕ). frame4 sheetKind (greatest fs) ++ markLines 0 (marksOf n fs) ++ frameOf4 sheetEnd k) long in
+    (same, sym (ap (λ (t : List ℕ). length t) same) ∙ sheet-size (greatest fs) (marksOf n fs) ∙ ap (λ (k : ℕ). 12 + 7 * k) long)
+
+pub plan-sheet-size : (s : Stock) (ps : List Pair) → length (planAndSheet s ps) ≡ 24 + 7 * (length ps + s .cameras)
+plan-sheet-size s ps =
+    omega (arith, length-append (planText ps) (sheetText (s .cameras) (s .fits)), plan-size ps, sheet-found (s .cameras) (s .fits) .1)
+
 pub sheets-alike : (s t : Stock) → greatest (s .fits) < 256 → greatest (t .fits) < 256 →
     sheetText (s .cameras) (s .fits) ≡ sheetText (t .cameras) (t .fits) → alike s t ≡ true
 sheets-alike s t h k e =

@@ -7,8 +7,10 @@
 --   stockQuestions           the questions of stockFault, as a list
 --   fitsStored, litStored    the pairs that a reader stores: the stock's where 2 to 8 are answered yes
 --   markLines, sheetText     the standing sheet, from the cameras and the fits alone
+--   sheetWith                the same frames, from a number of pairs and marks that were found
 --   alike                    two stocks with as many cameras, the same greatest number and the same marks: the same sheet
 --   planLines, planText      a plan
+--   planAndSheet             a plan, directly followed by the standing sheet (document 02, L6)
 --   budgetText               what a budget of searches comes to (document 02, L4): pairs, searches run, lanes missing; a plan's lines
 use mathlib.Core.Bool.{Bool, _&&_}
 use mathlib.Core.List.{List, [], _∷_, _++_}
@@ -68,6 +70,9 @@ markLines u (m ∷ ms) = frame6 markKind u m ++ markLines (suc u) ms
 abbrev pub sheetText : (cameras : ℕ) → List Pair → List ℕ
 sheetText n fs = frame4 sheetKind (greatest fs) ++ markLines 0 (marksOf n fs) ++ frameOf4 sheetEnd n
 
+abbrev pub sheetWith : (pairs : ℕ) → (marks : List ℕ) → List ℕ
+sheetWith k ms = frame4 sheetKind k ++ markLines 0 ms ++ frameOf4 sheetEnd (length ms)
+
 -- two stocks with the same sheet
 abbrev pub alike : (one other : Stock) → Bool
 alike s t =
@@ -81,6 +86,10 @@ planLines (x ∷ xs) = frame6 pairKind (x .first) (x .second) ++ planLines xs
 
 abbrev pub planText : (pairs : List Pair) → List ℕ
 planText ps = frame4 planKind (length ps) ++ planLines ps ++ frameOf4 planEnd (length ps)
+
+-- BOTH
+abbrev pub planAndSheet : Stock → (pairs : List Pair) → List ℕ
+planAndSheet s ps = planText ps ++ sheetText (s .cameras) (s .fits)
 
 -- A BUDGET OF SEARCHES
 abbrev pub budgetText : (searches missing : ℕ) → (pairs : List Pair) → List ℕ

@@ -1,7 +1,8 @@
-// Answers written at the front of a lent buffer (document 01, "Frames"): a path, a barrier, a plan, a standing sheet, and
-// what a budget of searches comes to (document 02, L4).
+// Answers written at the front of a lent buffer (document 01, "Frames"): a path, a barrier, a plan directly followed by the
+// standing sheet (document 02, L6), and what a budget of searches comes to (L4).
 //   put_numbered, put_arcs, put_pairs             body frames, one for each value
-//   put_path, put_barrier, put_plan, put_budget, put_sheet    whole answers
+//   put_plan, put_sheet                           the two halves of a stock's answer
+//   put_path, put_barrier, put_plan_and_sheet, put_budget     whole answers
 use formats::kinds;
 use frames::write::put_barrier_line;
 use frames::write::put_frame_of4;
@@ -13,12 +14,12 @@ ghost use mathlib.Core.Path.{_≡_};
 ghost use Prim.Native.Nat.{ℕ, _+_, _*_, _≤_};
 ghost use mathlib.Core.List.{_++_};
 ghost use lib.ListN.{length, getD};
-ghost use Rattle.formats.specs.Kinds.{pairKind, sheetEnd, sheetKind, stepKind};
+ghost use Rattle.formats.specs.Kinds.{pairKind, stepKind};
 ghost use Rattle.counting.specs.Pairs.{zipPairs};
-ghost use Rattle.frames.specs.Frames.{frame4, frame6, frameOf4};
+ghost use Rattle.frames.specs.Frames.{frame6, frameOf4};
 ghost use Rattle.frames.specs.Writes.{Written};
 ghost use Rattle.files.specs.Answers.{eachLine, WrittenFirst};
-ghost use Rattle.files.specs.StockFile.{markLines, planText, budgetText};
+ghost use Rattle.files.specs.StockFile.{sheetWith, planText, budgetText};
 ghost use Rattle.files.specs.CertificateFile.{pathText, barrierText};
 
 // A frame of one kind for each value: its number, from 0, and the value.
@@ -91,14 +92,33 @@ pub fn put_barrier(out: &mut [u8], classes: &[u8]) -> usize
     put_frame_of4(out, last, kinds::BARRIER_END, classes.len())
 }
 
-pub fn put_plan(out: &mut [u8], firsts: &[u8], seconds: &[u8]) -> usize
+fn put_plan(out: &mut [u8], firsts: &[u8], seconds: &[u8]) -> usize
     requires { ⌜ length (now seconds) ≡ length (now firsts) ⌝ }
     requires { ⌜ 12 + 7 * length (now firsts) ≤ length (now out) ⌝ }
-    ensures { λ r. ⌜ WrittenFirst (planText (zipPairs (now (firsts .entry)) (now (seconds .entry)))) (now (out .entry)) (now (out .exit)) r ⌝ }
+    ensures { λ r. ⌜ Written (now (out .entry)) 0 (12 + 7 * length (now (firsts .entry))) (planText (zipPairs (now (firsts .entry)) (now (seconds .entry)))) (now (out .exit)) r ⌝ }
 {
     let first = put_frame4(out, 0, kinds::PLAN, firsts.len());
     let last = put_pairs(out, first, firsts, seconds);
     put_frame_of4(out, last, kinds::PLAN_END, firsts.len())
+}
+
+fn put_sheet(out: &mut [u8], at: usize, pairs: usize, marks: &[u8]) -> usize
+    requires { ⌜ at + (12 + 7 * length (now marks)) ≤ length (now out) ⌝ }
+    ensures { λ r. ⌜ Written (now (out .entry)) at (12 + 7 * length (now (marks .entry))) (sheetWith pairs (now (marks .entry))) (now (out .exit)) r ⌝ }
+{
+    let first = put_frame4(out, at, kinds::SHEET, pairs);
+    let last = put_numbered(out, first, kinds::MARK, marks);
+    put_frame_of4(out, last, kinds::SHEET_END, marks.len())
+}
+
+// The sheet's number is that of the plan's pairs.
+pub fn put_plan_and_sheet(out: &mut [u8], firsts: &[u8], seconds: &[u8], marks: &[u8]) -> usize
+    requires { ⌜ length (now seconds) ≡ length (now firsts) ⌝ }
+    requires { ⌜ 24 + 7 * (length (now firsts) + length (now marks)) ≤ length (now out) ⌝ }
+    ensures { λ r. ⌜ WrittenFirst (planText (zipPairs (now (firsts .entry)) (now (seconds .entry))) ++ sheetWith (length (now (firsts .entry))) (now (marks .entry))) (now (out .entry)) (now (out .exit)) r ⌝ }
+{
+    let sheet = put_plan(out, firsts, seconds);
+    put_sheet(out, sheet, firsts.len(), marks)
 }
 
 pub fn put_budget(
@@ -115,13 +135,4 @@ pub fn put_budget(
     let first = put_frame8(out, 0, kinds::BUDGET, firsts.len(), searches, missing);
     let last = put_pairs(out, first, firsts, seconds);
     put_frame_of4(out, last, kinds::BUDGET_END, firsts.len())
-}
-
-pub fn put_sheet(out: &mut [u8], pairs: usize, marks: &[u8]) -> usize
-    requires { ⌜ 12 + 7 * length (now marks) ≤ length (now out) ⌝ }
-    ensures { λ r. ⌜ WrittenFirst (frame4 sheetKind pairs ++ markLines 0 (now (marks .entry)) ++ frameOf4 sheetEnd (length (now (marks .entry)))) (now (out .entry)) (now (out .exit)) r ⌝ }
-{
-    let first = put_frame4(out, 0, kinds::SHEET, pairs);
-    let last = put_numbered(out, first, kinds::MARK, marks);
-    put_frame_of4(out, last, kinds::SHEET_END, marks.len())
 }

@@ -4,6 +4,7 @@
 --   whole-is           question 3 is answered yes exactly for files of frames, each ended either way
 --   writes-digits      what is written of a number is digits alone
 --   frame2-plain, frame4-plain, frame6-plain, frame8-plain, frameOf4-plain    a frame at the front of a text: a whole line that ends with a line feed alone
+--   frame4-line, frame6-line, frameOf4-line    a frame at the front of a text: its first line, read as it was written
 --   feeds-as-before    without carriage returns the lines are document 03's
 use mathlib.Core.Path.{_≡_, refl, sym, ap, _∙_}
 use mathlib.Core.Bool.{Bool, true, false, _&&_, not, and-false}
@@ -152,10 +153,11 @@ ended-text (c ∷ d ∷ ds) h =
     (λ r e. rw (r, e, eqb-true c 10 e) (ap (λ (f : List ℕ). 10 ∷ f) ih)) (λ r e. rw (r, e) (front-text c d ds (endedLines (d ∷ ds)) ih))
 
 -- FRAMES have neither byte in them
+digits-inner : (l : List ℕ) → all isDigit l ≡ true → all isInner l ≡ true
+digits-inner l d = each-all isInner l (λ c i. let e = all-each isDigit l d c i in rw (digit-other c 10 e refl, digit-other c 13 e refl))
+
 frame-inner : (l : List ℕ) → isFrame l ≡ true → all isInner l ≡ true
-frame-inner l h =
-    let d = and-three (ltb 0 (length l)) (eqb (length l % 2) 0) (all isDigit l) h .2 in
-    each-all isInner l (λ c i. let e = all-each isDigit l d c i in rw (digit-other c 10 e refl, digit-other c 13 e refl))
+frame-inner l h = digits-inner l (and-three (ltb 0 (length l)) (eqb (length l % 2) 0) (all isDigit l) h .2)
 
 pub whole-is : WholeIs
 whole-is f = (there, back)
@@ -186,6 +188,9 @@ inner-among [] r h = refl
 inner-among (c ∷ cs) r h =
     let p = inner-byte c cs h in
     rw (ne-eqb 13 c (λ e. eqb-false c 13 (p .1) (sym e))) (inner-among cs r (p .2))
+
+digits-line : (l r : List ℕ) → all isDigit l ≡ true → linesOf (l ++ 10 ∷ r) ≡ l ∷ linesOf r
+digits-line l r h = line-read l false r (digits-inner l h)
 
 line-plain : (l r : List ℕ) → isFrame l ≡ true → isPlainText (l ++ 10 ∷ r) ≡ isPlainText r
 unfolding all among
@@ -219,12 +224,20 @@ module _ (k : ℕ) where
   unfolding hexBytes
   frame4-plain a r = line-plain (hexBytes 2 k ++ hexBytes 2 a) r (digits-two 2 2 k a)
 
+  pub frame4-line : (a : ℕ) (r : List ℕ) → linesOf (frame4 k a ++ r) ≡ (hexBytes 2 k ++ hexBytes 2 a) ∷ linesOf r
+  unfolding hexBytes
+  frame4-line a r = digits-line (hexBytes 2 k ++ hexBytes 2 a) r (digits-two 2 2 k a)
+
   digits-three : (a b : ℕ) → all isDigit (hexBytes 2 k ++ hexBytes 2 a ++ hexBytes 2 b) ≡ true
   digits-three a b = all-append isDigit (hexBytes 2 k ++ hexBytes 2 a) (hexBytes 2 b) (digits-two 2 2 k a) (writes-digits 2 b)
 
   pub frame6-plain : (a b : ℕ) (r : List ℕ) → isPlainText (frame6 k a b ++ r) ≡ isPlainText r
   unfolding hexBytes
   frame6-plain a b r = line-plain (hexBytes 2 k ++ hexBytes 2 a ++ hexBytes 2 b) r (digits-three a b)
+
+  pub frame6-line : (a b : ℕ) (r : List ℕ) → linesOf (frame6 k a b ++ r) ≡ (hexBytes 2 k ++ hexBytes 2 a ++ hexBytes 2 b) ∷ linesOf r
+  unfolding hexBytes
+  frame6-line a b r = digits-line (hexBytes 2 k ++ hexBytes 2 a ++ hexBytes 2 b) r (digits-three a b)
 
   pub frame8-plain : (a b c : ℕ) (r : List ℕ) → isPlainText (frame8 k a b c ++ r) ≡ isPlainText r
   unfolding hexBytes
@@ -235,3 +248,7 @@ module _ (k : ℕ) where
   pub frameOf4-plain : (v : ℕ) (r : List ℕ) → isPlainText (frameOf4 k v ++ r) ≡ isPlainText r
   unfolding hexBytes
   frameOf4-plain v r = line-plain (hexBytes 2 k ++ hexBytes 4 v) r (digits-two 2 4 k v)
+
+  pub frameOf4-line : (v : ℕ) (r : List ℕ) → linesOf (frameOf4 k v ++ r) ≡ (hexBytes 2 k ++ hexBytes 4 v) ∷ linesOf r
+  unfolding hexBytes
+  frameOf4-line v r = digits-line (hexBytes 2 k ++ hexBytes 4 v) r (digits-two 2 4 k v)

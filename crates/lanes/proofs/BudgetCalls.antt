@@ -1,4 +1,4 @@
--- What the budgeted call answers: as the stock calls do (StockCalls), with the searches that were run.
+-- What the budgeted call answers: as the stock call does (StockCalls), with the searches that were run.
 --   budget-few           a pairing of at most 63 pairs is handed out
 --   budget-small         what is written is short
 --   budget-written       and is what is owed of the stock

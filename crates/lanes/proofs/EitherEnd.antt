@@ -14,7 +14,7 @@ use Rattle.frames.proofs.EitherEnd.{frame4-plain}
 use Rattle.files.specs.GraphFile.{graphIn}
 use Rattle.files.specs.SameLines.{SameLines}
 use Rattle.files.proofs.SameLines.{returns-same, too-long}
-use Rattle.files.proofs.AnswerEnds.{path-plain, barrier-plain, plan-plain, budget-plain, sheet-plain}
+use Rattle.files.proofs.AnswerEnds.{path-plain, barrier-plain, plan-sheet-plain, budget-plain}
 use Rattle.lanes.specs.Entry.{checkPost, verdictLine}
 use Rattle.lanes.specs.declared.Verdict.{Verdict}
 use Rattle.lanes.specs.declared.Verdict.the-variants.{Refused, Yes, No}
@@ -26,8 +26,6 @@ answered-alike f g s = (
   λ o v r. rw (s .0, s .1, s .2) (λ x. x, λ x. x),
   λ o t. rw (s .0, s .1, s .2),
   λ o v r. rw (s .0, s .1, s .2) (λ x. x, λ x. x),
-  λ o. rw (s .0, s .1, s .2),
-  λ o. rw (s .0, s .1, s .2),
   λ o t. rw (s .0, s .1, s .2),
   λ b o v r. rw (s .0, s .1, s .2) (λ x. x, λ x. x),
   λ b o t. rw (s .0, s .1, s .2),
@@ -60,4 +58,4 @@ verdict-plain Yes = line-plain verdictKind 1
 verdict-plain No = line-plain verdictKind 0
 
 pub writes-plain : WritesPlain
-writes-plain = (path-plain, barrier-plain, plan-plain, budget-plain, sheet-plain, line-plain refusalKind, verdict-plain)
+writes-plain = (path-plain, barrier-plain, plan-sheet-plain, budget-plain, line-plain refusalKind, verdict-plain)

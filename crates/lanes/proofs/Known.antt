@@ -3,6 +3,7 @@
 --   known-texts       answers byte for byte
 --   known-ends        files with either line end
 --   known-isolated    cameras without a fit
+--   known-answers     a plan and the sheet behind it
 --   known-budgets     budgets of searches
 --   known-self-arcs   arcs from a node to itself
 use mathlib.Core.Path.{refl}
@@ -15,7 +16,7 @@ use Rattle.matching.specs.Stock.{hasPair, noneShared, withFirst, allPairings, m
 use Rattle.matching.specs.Budget.{searchOneByOne}
 use Rattle.files.specs.StockFile.{markLines, planLines}
 use Rattle.files.specs.CertificateFile.{classLines, pathLines, namesInOrder}
-use Rattle.lanes.specs.Known.{KnownFiles, KnownTexts, KnownEnds, KnownIsolated, KnownBudgets, KnownSelfArcs}
+use Rattle.lanes.specs.Known.{KnownFiles, KnownTexts, KnownEnds, KnownIsolated, KnownAnswers, KnownBudgets, KnownSelfArcs}
 
 pub known-files : KnownFiles
 unfolding all any among noneTwice upFrom keep nodesAlong isJoined noMates endOf reachesFrom largestOf entriesInto partOnce partBy leastOf classesFrom hasPair noneShared pairsRise linesOf endsWhole hexFrom hexBytes laterFit bodiesFit pairsIn numbersIn matesFit classLines pathLines namesInOrder secondsOf
@@ -32,6 +33,10 @@ known-ends = (refl, refl, refl, refl, refl, refl, refl, refl, refl, refl, refl, 
 pub known-isolated : KnownIsolated
 unfolding all any upFrom hasPair noneShared withFirst allPairings mostOf marksFrom pairsRise samePairs linesOf endsWhole hexFrom hexBytes laterFit bodiesFit pairsIn markLines
 known-isolated = (refl, refl, refl, refl, refl, refl)
+
+pub known-answers : KnownAnswers
+unfolding all any upFrom hasPair noneShared withFirst allPairings mostOf marksFrom pairsRise samePairs linesOf hexFrom hexBytes pairsIn markLines planLines
+known-answers = (refl, refl, refl, refl, refl, refl, refl, refl, refl, refl, refl, refl, refl)
 
 pub known-budgets : KnownBudgets
 unfolding all any upFrom hasPair noneShared withFirst allPairings mostOf pairsRise samePairs searchOneByOne linesOf endsWhole hexFrom hexBytes laterFit bodiesFit pairsIn planLines

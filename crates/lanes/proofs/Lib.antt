@@ -2,13 +2,14 @@
 --   Marked           the marked set, as one fact about the definitions
 --   Known            known graphs and stocks as files, by computing
 --   Promises         the promises, kept for every file
---   BytePromises     five of them as document 03 states them
+--   StockPromises    the stock call's promises
+--   BytePromises     five of both as document 03 states them
 --   BudgetPromises   the budgeted call's promises
 --   EitherEnd        the promises where lines end either way
 --   Checks           the check's answer
 --   SelfArcs         the promises where an arc leads from a node to itself
 --   GraphCalls       what the graph call answers
---   StockCalls       what the stock calls answer
+--   StockCalls       what the stock call answers
 --   BudgetCalls      what the budgeted call answers
 --   Outcomes         the tally that a call owes, by what the call came to
 --   Forms            the answers of the calls by value, as a proof by hand takes them
@@ -18,6 +19,7 @@
 pub mod Marked
 pub mod Known
 pub mod Promises
+pub mod StockPromises
 pub mod BytePromises
 pub mod BudgetPromises
 pub mod EitherEnd

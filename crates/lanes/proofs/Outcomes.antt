@@ -8,7 +8,7 @@ use lib.Dec.{eqb}
 use Rattle.counting.specs.Tests.{pick}
 use Rattle.skew.specs.Graph.{hasPath}
 use Rattle.files.specs.GraphFile.{graphIn}
-use Rattle.lanes.specs.Entry.{counted, tallied, answerFault, graphOutcome, graphTally, sheetFault, stockOutcome, stockTally, budgetFault, budgetOutcome, budgetTally}
+use Rattle.lanes.specs.Entry.{counted, tallied, answerFault, graphOutcome, graphTally, stockCallFault, stockOutcome, stockTally, budgetFault, budgetOutcome, budgetTally}
 use Rattle.lanes.specs.declared.Tally.{Tally}
 use Rattle.lanes.specs.declared.Outcome.the-variants.{Path, Barrier, Stock, Refusal}
 
@@ -26,7 +26,7 @@ pub graph-tallied : (f o : List ℕ) (t : Tally) → tallied t (graphOutcome f o
 graph-tallied f o t = by-path t (eqb (answerFault f o) 0) (hasPath (graphIn f))
 
 pub stock-tallied : (f o : List ℕ) (t : Tally) → tallied t (stockOutcome f o) ≡ stockTally f o t
-stock-tallied f o t = by-answer t (eqb (sheetFault f o) 0)
+stock-tallied f o t = by-answer t (eqb (stockCallFault f o) 0)
 
 pub budget-tallied : (b : ℕ) (f o : List ℕ) (t : Tally) → tallied t (budgetOutcome b f o) ≡ budgetTally b f o t
 budget-tallied b f o t = by-answer t (eqb (budgetFault b f o) 0)

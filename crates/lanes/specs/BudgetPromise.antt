@@ -4,7 +4,7 @@
 --   BudgetNumbers      PP, SS and MM are the numbers defined; SS is also the result's, and the size follows from PP
 --   BudgetBounds       the greatest number of pairs is at most PP plus MM
 --   BudgetPlans        with as many searches as question 15 allows it is a plan, and MM is 0
---   SameRefusals       a budget that passes 15 is refused where the other stock calls are, with the same number
+--   SameRefusals       a budget that passes 15 is refused where the stock call is, with the same number
 --   SomeBudget         the call can answer: something is owed of every file, budget and buffer
 use mathlib.Core.Path.{_≡_}
 use mathlib.Core.Bool.{true}
@@ -18,7 +18,7 @@ use Rattle.matching.specs.Stock.{greatest, isPlan}
 use Rattle.matching.specs.Budget.{gain, gained, searchesRun, missing}
 use Rattle.files.specs.StockFile.{stockIn, budgetText}
 use Rattle.files.specs.Answers.{over}
-use Rattle.lanes.specs.Entry.{sheetFault, budgetFault, searched, BudgetOwes}
+use Rattle.lanes.specs.Entry.{stockCallFault, budgetFault, searched, BudgetOwes}
 use Rattle.lanes.specs.declared.Searched.{Searched}
 
 abbrev pub pairsSaid : (answer : List ℕ) → ℕ
@@ -49,7 +49,7 @@ BudgetPlans =
     (v ≡ over (budgetText (suc (gain (stockIn f))) 0 ps) o))
 
 abbrev pub SameRefusals : Type 0
-SameRefusals = (b : ℕ) (f o : List ℕ) → b ≤ searchesMost → budgetFault b f o ≡ sheetFault f o
+SameRefusals = (b : ℕ) (f o : List ℕ) → b ≤ searchesMost → budgetFault b f o ≡ stockCallFault f o
 
 abbrev pub SomeBudget : Type 0
 SomeBudget = (b : ℕ) (f o : List ℕ) → (r : Searched) × ((v : List ℕ) × BudgetOwes b f o r v)

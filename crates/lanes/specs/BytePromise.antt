@@ -1,6 +1,8 @@
--- Five promises as document 03 states them: of files whose elements are bytes. Promise says as much or more, of every file: of four under the same name.
+-- Five promises as document 03 states them: of files whose elements are bytes. Promise and StockPromise say as much or more, of every file: of four under
+-- the same name.
 -- Document 03's markOf is pairingMark here, since document 02's L2 gives cameras without a fit a mark of their own; there MarksAre speaks of the new mark,
--- and MarksKept says how the two differ. Its graphFault is basicGraphFault, since L5 asks one question more.
+-- and MarksKept says how the two differ. Its graphFault is basicGraphFault, since L5 asks one question more. Its sheet is the sheet half of the stock call's
+-- answer, since L6.
 --   areBytes           every element is a byte
 --   IsGraphFile        bytes that document 03's questions of a graph file accept
 --   ReachesByPaths, PathOrBarrier, GreatestIs, MarksAre, SheetsTell    demands 2 and 3, of files of bytes
@@ -18,8 +20,9 @@ use Rattle.matching.specs.Promise.{LeftBySome, FitsSomeLeft}
 use Rattle.matching.specs.Stock.{isPairing, greatest, pairingMark, isPlan}
 use Rattle.files.specs.GraphFile.{graphIn, basicGraphFault}
 use Rattle.files.specs.StockFile.{stockIn, stockFault, alike}
-use Rattle.lanes.specs.Entry.{sheetOfFile, sheetFault}
-use Rattle.lanes.specs.Promise.{sheetIn}
+use Rattle.lanes.specs.Entry.{sheetOfFile}
+use Rattle.lanes.specs.StockPromise.{AnsweredWith, sheetHalf}
+use Rattle.lanes.specs.declared.Told.{Told}
 
 unfoldable pub areBytes : List ℕ → Bool
 areBytes [] = true
@@ -54,5 +57,5 @@ MarksAre =
 
 abbrev pub SheetsTell : Type 0
 SheetsTell =
-    (f g o p : List ℕ) → areBytes f ≡ true → areBytes g ≡ true → sheetFault f o ≡ 0 → sheetFault g p ≡ 0 →
-    ((sheetIn f o ≡ sheetIn g p) ↔ (alike (stockIn f) (stockIn g) ≡ true)) × (sheetIn f o ≡ sheetOfFile f)
+    (f g o p v w : List ℕ) (q r : Told) → areBytes f ≡ true → areBytes g ≡ true → AnsweredWith f o q v → AnsweredWith g p r w →
+    ((sheetHalf f q v ≡ sheetHalf g r w) ↔ (alike (stockIn f) (stockIn g) ≡ true)) × (sheetHalf f q v ≡ sheetOfFile f)

@@ -14,10 +14,11 @@ use Rattle.formats.specs.Limits.{fileMost}
 use Rattle.counting.specs.Pairs.{Pair}
 use Rattle.frames.specs.EitherEnd.{withReturns, isPlainText}
 use Rattle.frames.specs.Frames.{orElse}
+use Rattle.matching.specs.Stock.{Stock}
 use Rattle.files.specs.GraphFile.{graphFault}
-use Rattle.files.specs.StockFile.{planText, sheetText, budgetText}
+use Rattle.files.specs.StockFile.{planAndSheet, budgetText}
 use Rattle.files.specs.CertificateFile.{pathText, barrierText}
-use Rattle.lanes.specs.Entry.{roomFault, answerFault, GraphOwes, graphTally, checkFault, checkPost, sheetFault, PlanOwes, sheetPost, sheetLeaves, stockTally, mostFault, budgetFault, BudgetOwes, budgetTally, refusalLine, verdictLine}
+use Rattle.lanes.specs.Entry.{roomFault, answerFault, GraphOwes, graphTally, checkFault, checkPost, stockCallFault, StockOwes, stockTally, mostFault, budgetFault, BudgetOwes, budgetTally, refusalLine, verdictLine}
 use Rattle.lanes.specs.declared.Tally.{Tally}
 use Rattle.lanes.specs.declared.Told.{Told}
 use Rattle.lanes.specs.declared.Searched.{Searched}
@@ -28,8 +29,8 @@ abbrev pub AnsweredAlike : (one other : List ℕ) → Type 0
 AnsweredAlike f g =
     ((o v : List ℕ) (r : Told) → GraphOwes f o r v ↔ GraphOwes g o r v) ×
     ((o : List ℕ) (t : Tally) → graphTally f o t ≡ graphTally g o t) ×
-    ((o v : List ℕ) (r : Told) → PlanOwes f o r v ↔ PlanOwes g o r v) × ((o : List ℕ) → sheetPost f o ≡ sheetPost g o) ×
-    ((o : List ℕ) → sheetLeaves f o ≡ sheetLeaves g o) × ((o : List ℕ) (t : Tally) → stockTally f o t ≡ stockTally g o t) ×
+    ((o v : List ℕ) (r : Told) → StockOwes f o r v ↔ StockOwes g o r v) ×
+    ((o : List ℕ) (t : Tally) → stockTally f o t ≡ stockTally g o t) ×
     ((b : ℕ) (o v : List ℕ) (r : Searched) → BudgetOwes b f o r v ↔ BudgetOwes b g o r v) ×
     ((b : ℕ) (o : List ℕ) (t : Tally) → budgetTally b f o t ≡ budgetTally b g o t)
 
@@ -39,7 +40,7 @@ ReturnsAnswered =
     (length (withReturns chosen f) ≤ fileMost → AnsweredAlike (withReturns chosen f) f) ×
     (fileMost < length (withReturns chosen f) →
     (o : List ℕ) →
-    (answerFault (withReturns chosen f) o ≡ orElse (roomFault o) 2) × (sheetFault (withReturns chosen f) o ≡ orElse (roomFault o) 2) ×
+    (answerFault (withReturns chosen f) o ≡ orElse (roomFault o) 2) × (stockCallFault (withReturns chosen f) o ≡ orElse (roomFault o) 2) ×
     ((b : ℕ) → budgetFault b (withReturns chosen f) o ≡ orElse (roomFault o) (orElse (mostFault b) 2)))
 
 -- THE CHECK, with a choice for each of its files
@@ -55,7 +56,6 @@ ReturnsChecked =
 abbrev pub WritesPlain : Type 0
 WritesPlain =
     ((is : List ℕ) → isPlainText (pathText is) ≡ true) × ((cs : List ℕ) → isPlainText (barrierText cs) ≡ true) ×
-    ((ps : List Pair) → isPlainText (planText ps) ≡ true) ×
-    ((k m : ℕ) (ps : List Pair) → isPlainText (budgetText k m ps) ≡ true) ×
-    ((n : ℕ) (fs : List Pair) → isPlainText (sheetText n fs) ≡ true) × ((n : ℕ) → isPlainText (refusalLine n) ≡ true) ×
+    ((s : Stock) (ps : List Pair) → isPlainText (planAndSheet s ps) ≡ true) ×
+    ((k m : ℕ) (ps : List Pair) → isPlainText (budgetText k m ps) ≡ true) × ((n : ℕ) → isPlainText (refusalLine n) ≡ true) ×
     ((v : Verdict) → isPlainText (verdictLine v) ≡ true)

@@ -1,14 +1,14 @@
 -- What each call answers and leaves: its result, the buffer and the tally (document 01, "Questions put to a call"; the definitions are document
--- 03's, with the verdict's lines and the budgeted call of document 02, L4).
---   roomFault, answerFault, sheetFault, checkFault    the first question answered no, by call
+-- 03's, with the verdict's lines, and document 02's calls: the budgeted one of L4, and L6's one for a plan and a sheet).
+--   roomFault, answerFault, stockCallFault, checkFault     the first question answered no, by call
 --   told                                              a call's result: its refusal, or 0 and the answer's size
 --   largest, raised, counted, tallied                 a count's largest; one more below it; of the counts named; of the one that an outcome names
 --   Answers                                           a text is told, and stands at the buffer's front
 --   GraphOwes, graphOutcome, graphTally               a graph's answer, some path or the canonical barrier; what it comes to; the tally then
 --   checkPost, verdictLine                            the check's answer, and the line that says it
---   PlanOwes                                          a stock's plan: which largest one is left free
---   sheetOfFile, sheetPost, sheetLeaves               a stock's standing sheet
---   stockOutcome, stockTally                          what either comes to, and the tally then
+--   sheetOfFile                                       a stock's standing sheet
+--   StockOwes                                         a stock's answer, some plan and that sheet: which largest plan is left free
+--   stockOutcome, stockTally                          what that call comes to, and the tally then
 --   mostFault, budgetFault                            question 15; 1, then 15, then the stock's
 --   searched                                          a call's result with the searches that were run, 0 in a refusal
 --   budgetTextOf, BudgetOwes                          what a budget of searches comes to, as it is written; which pairing is left free
@@ -29,7 +29,7 @@ use Rattle.skew.specs.Graph.{hasPath, isWanted, canonical}
 use Rattle.matching.specs.Stock.{Stock, isPlan}
 use Rattle.matching.specs.Budget.{searchesRun, missing, isBudgeted}
 use Rattle.files.specs.GraphFile.{graphIn, graphFault}
-use Rattle.files.specs.StockFile.{stockIn, stockFault, planText, sheetText, budgetText}
+use Rattle.files.specs.StockFile.{stockIn, stockFault, sheetText, planAndSheet, budgetText}
 use Rattle.files.specs.Answers.{over}
 use Rattle.files.specs.CertificateFile.{certFault, certHolds, pathText, barrierText}
 use Rattle.lanes.specs.declared.Tally.{Tally}
@@ -109,30 +109,23 @@ verdictLine (Refused n) = refusalLine n
 verdictLine Yes = frame4 verdictKind 1
 verdictLine No = frame4 verdictKind 0
 
--- A PLAN: which largest one is left free
-abbrev pub sheetFault : (file buffer : List ℕ) → ℕ
-sheetFault f o = orElse (roomFault o) (stockFault f)
+-- A STOCK: some plan, directly followed by the standing sheet; which largest plan is left free
+abbrev pub stockCallFault : (file buffer : List ℕ) → ℕ
+stockCallFault f o = orElse (roomFault o) (stockFault f)
 
-abbrev pub PlanOwes : (file buffer : List ℕ) → (answer : Told) → (after : List ℕ) → Type 0
-PlanOwes f o r v =
-    (eqb (sheetFault f o) 0 ≡ false → (r ≡ told (sheetFault f o) 0) × (v ≡ o)) ×
-    (sheetFault f o ≡ 0 → (ps : List Pair) × ((isPlan (stockIn f) ps ≡ true) × Answers (planText ps) o r v))
-
--- THE SHEET
 abbrev pub sheetOfFile : (file : List ℕ) → List ℕ
 sheetOfFile f = sheetText (stockIn f .cameras) (stockIn f .fits)
 
-abbrev pub sheetPost : (file buffer : List ℕ) → Told
-sheetPost f o = told (sheetFault f o) (length (sheetOfFile f))
-
-abbrev pub sheetLeaves : (file buffer : List ℕ) → List ℕ
-sheetLeaves f o = pick (eqb (sheetFault f o) 0) (over (sheetOfFile f) o) o
+abbrev pub StockOwes : (file buffer : List ℕ) → (answer : Told) → (after : List ℕ) → Type 0
+StockOwes f o r v =
+    (eqb (stockCallFault f o) 0 ≡ false → (r ≡ told (stockCallFault f o) 0) × (v ≡ o)) ×
+    (stockCallFault f o ≡ 0 → (ps : List Pair) × ((isPlan (stockIn f) ps ≡ true) × Answers (planAndSheet (stockIn f) ps) o r v))
 
 abbrev pub stockOutcome : (file buffer : List ℕ) → Outcome
-stockOutcome f o = pick (eqb (sheetFault f o) 0) outcome.Stock outcome.Refusal
+stockOutcome f o = pick (eqb (stockCallFault f o) 0) outcome.Stock outcome.Refusal
 
 abbrev pub stockTally : (file buffer : List ℕ) → Tally → Tally
-stockTally f o t = counted t false false (eqb (sheetFault f o) 0) (not (eqb (sheetFault f o) 0))
+stockTally f o t = counted t false false (eqb (stockCallFault f o) 0) (not (eqb (stockCallFault f o) 0))
 
 -- A BUDGET OF SEARCHES: which pairing is left free
 abbrev pub mostFault : (most : ℕ) → ℕ

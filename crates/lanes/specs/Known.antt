@@ -8,7 +8,10 @@
 --   KnownEnds                         files with such ends, answered alike; files whose lines are ended otherwise, refused with 3
 --   fourMarks, fourMarksFile          a stock of eight cameras with every mark, two of them without a fit
 --   KnownIsolated                     the sheets of three stocks with cameras without a fit
---   s5, s5Plan, oneFit, noCameras     S5, its plan; so many cameras, of which two fit each other; none
+--   s5, s5Plan, noCameras             S5, its plan; no cameras
+--   triangleLit ls                    S3 with these pairs lit
+--   KnownAnswers                      the stock call's answers to S1 and S5, byte for byte; S3's sheet half, whichever pairs are lit
+--   oneFit                            so many cameras, of which two fit each other
 --   Budgets                           a pairing is one that so many searches may come to, with these numbers in the header
 --   KnownBudgets                      S5's answers to budgets of 0, 1, 2 and 64 searches, and edges
 --   KnownSelfArcs                     question 16, with those before and after it, and in the check; an arc to a node's mate
@@ -26,10 +29,11 @@ use Rattle.counting.specs.Pairs.{Pair}
 use Rattle.matching.specs.Stock.{Stock, isPlan}
 use Rattle.matching.specs.Budget.{gain, isBudgeted, searchOneByOne}
 use Rattle.files.specs.GraphFile.{graphIn, graphFault, basicGraphFault}
-use Rattle.files.specs.StockFile.{stockIn, stockFault, planLines, planText, sheetText}
+use Rattle.files.specs.StockFile.{stockIn, stockFault, planLines, planText, planAndSheet, sheetText}
 use Rattle.files.specs.CertificateFile.{pathText, barrierText}
 use Rattle.lanes.specs.Entry.{sheetOfFile, checkPost, mostFault, budgetFault, budgetTextOf}
 use Rattle.lanes.specs.Promise.{arc, graphOf, g4, g5}
+use Rattle.lanes.specs.StockPromise.{sheetPlace, pairsRead}
 use Rattle.lanes.specs.declared.Verdict.the-variants.{Refused, Yes, No}
 
 abbrev pub arcLines : List Pair → List ℕ
@@ -125,18 +129,40 @@ KnownIsolated =
     frame6 markKind 5 2 ++ frame6 markKind 6 2 ++ frame6 markKind 7 3 ++ frameOf4 sheetEnd 8) ×
     (isPlan fourMarks (arc 1 2 ∷ arc 5 6 ∷ []) ≡ true)
 
--- A BUDGET OF SEARCHES (document 02, L4)
+-- A PLAN AND THE SHEET BEHIND IT (document 02, L6)
 abbrev pub s5 : Stock
 s5 = stockIn s5File
 
 abbrev pub s5Plan : List Pair
 s5Plan = arc 0 1 ∷ arc 2 3 ∷ []
 
-abbrev pub oneFit : (cameras : ℕ) → Stock
-oneFit n = record { cameras = n; fits = arc 0 1 ∷ []; lit = [] }
-
 abbrev pub noCameras : Stock
 noCameras = record { cameras = 0; fits = []; lit = [] }
+
+abbrev pub triangleLit : (lit : List Pair) → Stock
+triangleLit ls = record { cameras = 3; fits = arc 0 1 ∷ arc 0 2 ∷ arc 1 2 ∷ []; lit = ls }
+
+-- S1: 5100, 5F0000, 4100, 4F0000. S5: its plan, then 4102, 430002, 430102, 430202, 430302, 4F0004, from 26 on. S3, with 0 and 2 lit and with none: the plan
+-- keeps what is lit, and the sheet half is the same, from 19 on. Last, S5's plan read back
+abbrev pub KnownAnswers : Type 0
+KnownAnswers =
+    (isPlan noCameras [] ≡ true) × (sheetPlace [] ≡ 12) × (planAndSheet noCameras [] ≡
+    (53 ∷ 49 ∷ 48 ∷ 48 ∷ 10 ∷ 53 ∷ 70 ∷ 48 ∷ 48 ∷ 48 ∷ 48 ∷ 10 ∷ 52 ∷ 49 ∷ 48 ∷ 48 ∷ 10 ∷ 52 ∷ 70 ∷ 48 ∷ 48 ∷ 48 ∷ 48 ∷ 10 ∷
+    [])) ×
+    (isPlan s5 s5Plan ≡ true) × (sheetPlace (s5 .fits) ≡ 26) × (planAndSheet s5 s5Plan ≡
+    (53 ∷ 49 ∷ 48 ∷ 50 ∷ 10 ∷ 53 ∷ 50 ∷ 48 ∷ 48 ∷ 48 ∷ 49 ∷ 10 ∷ 53 ∷ 50 ∷ 48 ∷ 50 ∷ 48 ∷ 51 ∷ 10 ∷ 53 ∷ 70 ∷ 48 ∷ 48 ∷ 48 ∷
+    50 ∷ 10 ∷ 52 ∷ 49 ∷ 48 ∷ 50 ∷ 10 ∷ 52 ∷ 51 ∷ 48 ∷ 48 ∷ 48 ∷ 50 ∷ 10 ∷ 52 ∷ 51 ∷ 48 ∷ 49 ∷ 48 ∷ 50 ∷ 10 ∷ 52 ∷ 51 ∷ 48 ∷
+    50 ∷ 48 ∷ 50 ∷ 10 ∷ 52 ∷ 51 ∷ 48 ∷ 51 ∷ 48 ∷ 50 ∷ 10 ∷ 52 ∷ 70 ∷ 48 ∷ 48 ∷ 48 ∷ 52 ∷ 10 ∷ [])) ×
+    (isPlan (triangleLit (arc 0 2 ∷ [])) (arc 0 2 ∷ []) ≡ true) × (isPlan (triangleLit (arc 0 2 ∷ [])) (arc 0 1 ∷ []) ≡ false) ×
+    (isPlan (triangleLit []) (arc 0 1 ∷ []) ≡ true) × (sheetPlace (triangleLit [] .fits) ≡ 19) ×
+    (drop 19 (planAndSheet (triangleLit (arc 0 2 ∷ [])) (arc 0 2 ∷ [])) ≡ drop 19 (planAndSheet (triangleLit []) (arc 0 1 ∷ []))) ×
+    (drop 19 (planAndSheet (triangleLit []) (arc 0 1 ∷ [])) ≡
+    frame4 sheetKind 1 ++ frame6 markKind 0 0 ++ frame6 markKind 1 0 ++ frame6 markKind 2 0 ++ frameOf4 sheetEnd 3) ×
+    (pairsRead (planText s5Plan) ≡ s5Plan)
+
+-- A BUDGET OF SEARCHES (document 02, L4)
+abbrev pub oneFit : (cameras : ℕ) → Stock
+oneFit n = record { cameras = n; fits = arc 0 1 ∷ []; lit = [] }
 
 abbrev pub Budgets : Stock → (most : ℕ) → (pairs : List Pair) → (searches missing : ℕ) → Type 0
 Budgets s b ps k m =

@@ -3,10 +3,11 @@
 --   Verdicts           the check's answer, part by part
 --   Calls              a refused call by value, and an answered one
 --   GraphCalls         what the graph call answers by value
---   StockCalls         what the stock calls answer by value, each in one record
+--   StockCalls         what the stock call answers by value
 --   BudgetCalls        what the budgeted call answers by value
 --   Promise            what is promised of every file: demands 2 and 3, and the marked set
---   BytePromise        five of them as document 03 states them
+--   StockPromise       what is promised of the stock call: the two halves of its answer
+--   BytePromise        five of both as document 03 states them
 --   BudgetPromise      what is promised of the budgeted call
 --   EitherEnd          what is promised where lines end either way
 --   SelfArcs           what is promised where an arc leads from a node to itself
@@ -18,6 +19,7 @@ pub mod GraphCalls
 pub mod StockCalls
 pub mod BudgetCalls
 pub mod Promise
+pub mod StockPromise
 pub mod BytePromise
 pub mod BudgetPromise
 pub mod EitherEnd

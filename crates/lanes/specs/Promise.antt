@@ -1,6 +1,7 @@
--- What is promised of every graph file and of every two stock files. Each promise is a type; a term of the type is the theorem's proof.
--- ReachesByPaths, PathOrBarrier, GreatestIs, MarksAre and SheetsTell are document 03's (BytePromise has them as it states them), without its premise that
--- a file's elements are bytes; PathOrBarrier also says what hasPath tells, and MarksAre what mark 2 does, and mark 3, which document 02's L2 brings. The
+-- What is promised of every graph file and of every stock file. Each promise is a type; a term of the type is the theorem's proof. What the stock call's
+-- answer tells is in StockPromise.
+-- ReachesByPaths, PathOrBarrier, GreatestIs and MarksAre are document 03's (BytePromise has them as it states them), without its premise that a file's
+-- elements are bytes; PathOrBarrier also says what hasPath tells, and MarksAre what mark 2 does, and mark 3, which document 02's L2 brings. The
 -- others are added. Those of demand 2 ask of a graph file what document 03's questions do (basicGraphFault), so they hold of every accepted one, and of
 -- those too that question 16 alone refuses (files/specs/SelfArcs, AcceptedIs and SixteenIs).
 --   ReachesByPaths    demand 2: a node is reachable exactly if a regular path from the source ends there
@@ -9,27 +10,20 @@
 --   MarksAre          demand 3: the marks 0 to 3, by all largest pairings and by the fits (matching/specs/Promise MarkMeans)
 --   OneMark           exactly one of the four holds of a camera
 --   MarksKept         what L2 changed: a camera with a fit has document 03's mark, one without had 0; marks 1 and 2 are as they were
---   SheetsTell        demand 3: sheets are alike exactly when cameras, greatest number and every mark are; each is the sheet defined
---   SheetsByFits      demand 3: the same cameras and fits get the same sheet, whichever pairs are lit and whatever stood in the buffers
---   SheetNumber       demand 3: the number in a sheet's bytes is the length of some pairing of the fits, and none is longer
---   SheetMarks        demand 3: camera u's line in a sheet's bytes begins at cameraLine u, and has u and its mark
---   SameIsolated      two sheets of the same bytes are of stocks in which the same cameras have no fit
 --   Marked            G1 to G5 and S1 to S7
 use mathlib.Core.Path.{_≡_}
 use mathlib.Core.Logic.{_↔_}
 use mathlib.Core.Bool.{true, false}
 use mathlib.Core.List.{List, [], _∷_}
-use Prim.Native.Nat.{ℕ, _+_, _*_, _≤_, _<_}
-use lib.ListN.{length, take}
+use Prim.Native.Nat.{ℕ, _≤_, _<_}
+use lib.ListN.{length}
 use Rattle.counting.specs.Pairs.{Pair, pair}
-use Rattle.frames.specs.Frames.{hexAt}
 use Rattle.skew.specs.Graph.{Graph, isRegular, isWanted, isReachable, hasPath, isBarrier, canonical}
 use Rattle.skew.specs.Promise.{SomePath}
 use Rattle.matching.specs.Promise.{HasFit, MarkMeans}
 use Rattle.matching.specs.Stock.{isPairing, greatest, pairingMark, markOf, marksOf, isPlan}
 use Rattle.files.specs.GraphFile.{graphIn, basicGraphFault}
-use Rattle.files.specs.StockFile.{stockIn, stockFault, alike}
-use Rattle.lanes.specs.Entry.{sheetOfFile, sheetLeaves, sheetFault}
+use Rattle.files.specs.StockFile.{stockIn, stockFault}
 
 -- DEMAND 2
 abbrev pub ReachesByPaths : Type 0
@@ -69,41 +63,6 @@ MarksKept =
     ((HasFit (stockIn f .fits) u → true ≡ false) → pairingMark (stockIn f .fits) u ≡ 0) ×
     ((markOf (stockIn f .fits) u ≡ 1) ↔ (pairingMark (stockIn f .fits) u ≡ 1)) ×
     ((markOf (stockIn f .fits) u ≡ 2) ↔ (pairingMark (stockIn f .fits) u ≡ 2))
-
--- DEMAND 3: what the call left at the buffer's front
-abbrev pub sheetIn : (file buffer : List ℕ) → List ℕ
-sheetIn f o = take (length (sheetOfFile f)) (sheetLeaves f o)
-
-abbrev pub SheetsTell : Type 0
-SheetsTell =
-    (f g o p : List ℕ) → sheetFault f o ≡ 0 → sheetFault g p ≡ 0 →
-    ((sheetIn f o ≡ sheetIn g p) ↔ (alike (stockIn f) (stockIn g) ≡ true)) × (sheetIn f o ≡ sheetOfFile f)
-
-abbrev pub SheetsByFits : Type 0
-SheetsByFits =
-    (f g o p : List ℕ) → sheetFault f o ≡ 0 → sheetFault g p ≡ 0 → stockIn f .cameras ≡ stockIn g .cameras →
-    stockIn f .fits ≡ stockIn g .fits → sheetIn f o ≡ sheetIn g p
-
-abbrev pub SheetNumber : Type 0
-SheetNumber =
-    (f o : List ℕ) → sheetFault f o ≡ 0 →
-    ((qs : List Pair) × ((isPairing (stockIn f .fits) qs ≡ true) × (length qs ≡ hexAt 2 2 (sheetIn f o)))) ×
-    ((ps : List Pair) → isPairing (stockIn f .fits) ps ≡ true → length ps ≤ hexAt 2 2 (sheetIn f o))
-
--- where camera u's line begins: behind a header of 5 bytes and u lines of 7
-abbrev pub cameraLine : (camera : ℕ) → ℕ
-cameraLine u = 5 + 7 * u
-
-abbrev pub SheetMarks : Type 0
-SheetMarks =
-    (f o : List ℕ) (u : ℕ) → sheetFault f o ≡ 0 → u < stockIn f .cameras →
-    (hexAt (cameraLine u + 2) 2 (sheetIn f o) ≡ u) ×
-    (hexAt (cameraLine u + 4) 2 (sheetIn f o) ≡ markOf (stockIn f .fits) u)
-
-abbrev pub SameIsolated : Type 0
-SameIsolated =
-    (f g o p : List ℕ) (u : ℕ) → sheetFault f o ≡ 0 → sheetFault g p ≡ 0 → sheetIn f o ≡ sheetIn g p → u < stockIn f .cameras →
-    HasFit (stockIn f .fits) u ↔ HasFit (stockIn g .fits) u
 
 -- THE MARKED SET
 abbrev pub arc : (tail head : ℕ) → Pair

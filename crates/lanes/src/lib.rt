@@ -1,8 +1,8 @@
-// The pairing engine's calls (document 01, "Questions put to a call"): a graph, a stock for a plan, a stock for a standing sheet, and the
-// check; and a stock for what a budget of searches comes to (document 02, L4).
-//   answer_graph, plan, sheet, budget     answered in a lent buffer, and counted in a lent tally
+// The pairing engine's calls (document 01, "Questions put to a call"): a graph, a stock for a plan and its standing sheet (document 02, L6), a
+// stock for what a budget of searches comes to (L4), and the check.
+//   answer_graph, stock, budget           answered in a lent buffer, and counted in a lent tally
 //   check                                 a certificate judged; it lends no buffer and counts nothing
-//   graph_calls, stock_calls, budget_calls     the first four by value: what is told, and what it came to, uncounted
+//   graph_calls, stock_calls, budget_calls     the first three by value: what is told, and what it came to, uncounted
 //   calls                                 what those share: a refused call, and an answered one
 //   tallies                               the tally counted up, by value and lent
 //   verdicts                              a certificate judged against a graph that was read
@@ -17,12 +17,11 @@ use budget_calls::budget_by;
 use files::graphs::read_graph;
 use formats::limits::ARCS_MOST;
 use graph_calls::answer_graph_by;
-use stock_calls::plan_by;
-use stock_calls::sheet_by;
+use stock_calls::stock_by;
 use tallies::count;
 use verdicts::judge;
 ghost use mathlib.Core.Path.{_≡_};
-ghost use Rattle.lanes.specs.Entry.{GraphOwes, graphTally, checkPost, PlanOwes, sheetPost, sheetLeaves, stockTally, BudgetOwes, budgetTally};
+ghost use Rattle.lanes.specs.Entry.{GraphOwes, graphTally, checkPost, StockOwes, stockTally, BudgetOwes, budgetTally};
 
 // Counts of what the calls came to; a count at its largest stays there.
 pub struct Tally {
@@ -81,23 +80,12 @@ pub fn answer_graph(file: &[u8], out: &mut [u8], tally: &mut Tally) -> Told
     answer.told
 }
 
-// A stock answered with a plan: which largest one is left free.
-pub fn plan(file: &[u8], out: &mut [u8], tally: &mut Tally) -> Told
-    ensures { λ r. ⌜ PlanOwes (now (file .entry)) (now (out .entry)) r (now (out .exit)) ⌝ }
+// A stock answered with a plan, directly followed by its standing sheet: which largest plan is left free.
+pub fn stock(file: &[u8], out: &mut [u8], tally: &mut Tally) -> Told
+    ensures { λ r. ⌜ StockOwes (now (file .entry)) (now (out .entry)) r (now (out .exit)) ⌝ }
     ensures tally { λ r. ⌜ now (tally .exit) ≡ stockTally (now (file .entry)) (now (out .entry)) (now (tally .entry)) ⌝ }
 {
-    let answer = plan_by(file, out);
-    count(tally, answer.outcome);
-    answer.told
-}
-
-// A stock answered with its standing sheet.
-pub fn sheet(file: &[u8], out: &mut [u8], tally: &mut Tally) -> Told
-    ensures { λ r. ⌜ r ≡ sheetPost (now (file .entry)) (now (out .entry)) ⌝ }
-    ensures out { λ r. ⌜ now (out .exit) ≡ sheetLeaves (now (file .entry)) (now (out .entry)) ⌝ }
-    ensures tally { λ r. ⌜ now (tally .exit) ≡ stockTally (now (file .entry)) (now (out .entry)) (now (tally .entry)) ⌝ }
-{
-    let answer = sheet_by(file, out);
+    let answer = stock_by(file, out);
     count(tally, answer.outcome);
     answer.told
 }

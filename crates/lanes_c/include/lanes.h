@@ -1,4 +1,4 @@
-/* The pairing engine's calls, in liblanes_c.a (document 01, "Questions put to a call"; lanes_budget: document 02, L4; refusal 16: L5).
+/* The pairing engine's calls, in liblanes_c.a (document 01, "Questions put to a call"; document 02: lanes_budget L4, refusal 16 L5, lanes_stock L6).
  *
  * A file and a buffer are a pointer and a number of bytes, each readable (a buffer also writable) over its whole length during the call; a buffer
  * overlaps neither the file nor the tally. No pointer is null. A call keeps nothing behind and may run in several threads at once.
@@ -35,12 +35,12 @@ extern "C" {
  * questions 2 to 9 and has an arc from a node to itself is refused with 16, by the check too. */
 uint64_t lanes_graph(const uint8_t *file, size_t file_size, uint8_t *out, size_t out_size, uint32_t tally[4]);
 
-/* A stock file: as many pairs as possible, every lit camera still lit; the lit pairs where those are as many. */
-uint64_t lanes_plan(const uint8_t *file, size_t file_size, uint8_t *out, size_t out_size, uint32_t tally[4]);
-
-/* A stock file: its standing sheet, the greatest number of pairs and a mark for each camera. 00: some largest pairing leaves it over, and it has a
- * fit; 01: none does, and it fits a camera marked 00; 02: none does, and it fits no such camera; 03: it has no fit at all. */
-uint64_t lanes_sheet(const uint8_t *file, size_t file_size, uint8_t *out, size_t out_size, uint32_t tally[4]);
+/* A stock file: a plan, directly followed by the standing sheet.
+ * The plan: as many pairs as possible, every lit camera still lit; the lit pairs where those are as many. Header 51PP, lines 52UUVV, end 5FCCCC.
+ * The sheet: the same whichever pairs are lit, the greatest number of pairs and a mark for each camera. Header 41PP, lines 43UUKK, end 4FCCCC. It begins at
+ * byte 12 + 7 * PP, with the plan's PP, which is the sheet's too. Mark 00: some largest pairing leaves the camera over, and it has a fit; 01: none does, and it
+ * fits a camera marked 00; 02: none does, and it fits no such camera; 03: it has no fit at all. */
+uint64_t lanes_stock(const uint8_t *file, size_t file_size, uint8_t *out, size_t out_size, uint32_t tally[4]);
 
 /* A stock file and how many searches may be run, 0 to LANES_SEARCHES_MOST; more are refused with 15. Each search lights one lane more, every lit camera
  * still lit, or finds that none can be lit, and then it is the last. The answer is a header 61PPSSMM, the pair lines of a plan, and 6FCCCC: PP pairs

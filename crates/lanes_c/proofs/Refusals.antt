@@ -21,7 +21,7 @@ use Rattle.files.specs.GraphFile.{graphIn, graphFault}
 use Rattle.files.proofs.Asked.{graph-refusal, stock-refusal}
 use Rattle.files.specs.StockFile.{stockFault}
 use Rattle.files.specs.CertificateFile.{certFault, certHolds}
-use Rattle.lanes.specs.Entry.{told, roomFault, answerFault, sheetFault, checkFault, checkPost, mostFault, budgetFault, searched}
+use Rattle.lanes.specs.Entry.{told, roomFault, answerFault, stockCallFault, checkFault, checkPost, mostFault, budgetFault, searched}
 use Rattle.lanes.specs.declared.Verdict.{Verdict}
 use Rattle.lanes.specs.declared.Verdict.the-variants.{Refused, Yes, No}
 use Rattle.lanes_c.specs.Exported.{Unpacks, CallsTell, UnpacksSearched, BudgetTells, said, SaysWhich, CheckTells}
@@ -65,7 +65,7 @@ after-room o n h = by-test (leb room (length o)) (λ t. rw t h) (λ t. rw t)
 pub calls-tell : CallsTell
 calls-tell f o k = (
   unpacks (answerFault f o) k (after-room o (graphFault f) (graph-refusal f (λ (n : ℕ). leb n 255) refl refl)),
-  unpacks (sheetFault f o) k (after-room o (stockFault f) (stock-refusal f (λ (n : ℕ). leb n 255) refl refl)),
+  unpacks (stockCallFault f o) k (after-room o (stockFault f) (stock-refusal f (λ (n : ℕ). leb n 255) refl refl)),
 )
 
 unpacks-searched : (n k j : ℕ) → leb n 255 ≡ true → k < 4294967296 → UnpacksSearched (searched n k j)

@@ -5,16 +5,15 @@
 --   said verdict                                      the check's: 1 for yes, 0 for no, otherwise the refusal
 --   SaysWhich verdict, CheckTells                     1 is said of yes alone and 0 of no alone, a refusal is 2 or more; so it is of every verdict of the check
 --   Unpacks told, CallsTell                           number and size can be read off a call's result, the size also with what is above it masked; so it is
---                                                     of the graph call and of the stock calls
+--                                                     of the graph call and of the stock call
 --   UnpacksSearched searched, BudgetTells             and the searches too; so it is of the budgeted call
---   Called pack Owes tally result after counts        a call whose answer is left free: what it tells and leaves is owed, and the tally is as given
---   SheetCalled file before counts result after new   the call that writes a standing sheet
+--   Called pack Owes tally result after counts        what a call tells and leaves is owed, and the tally is as given
 use mathlib.Core.Path.{_≡_}
 use mathlib.Core.Logic.{_↔_}
 use mathlib.Core.List.{List, [], _∷_}
 use Prim.Native.Nat.{ℕ, _+_, _*_, _/_, _%_, _≤_, _<_}
 use lib.ListN.{getD}
-use Rattle.lanes.specs.Entry.{told, answerFault, sheetFault, checkPost, sheetPost, sheetLeaves, stockTally, budgetFault, searched}
+use Rattle.lanes.specs.Entry.{told, answerFault, stockCallFault, checkPost, budgetFault, searched}
 use Rattle.lanes.specs.declared.Tally.{Tally}
 use Rattle.lanes.specs.declared.Told.{Told}
 use Rattle.lanes.specs.declared.Searched.{Searched}
@@ -35,7 +34,7 @@ Unpacks r =
     (packed r % 256 ≡ r .number) × (packed r / 256 ≡ r .size) × (r .size < 4294967296 → packed r / 256 % 4294967296 ≡ r .size)
 
 abbrev pub CallsTell : Type 0
-CallsTell = (file buffer : List ℕ) (size : ℕ) → Unpacks (told (answerFault file buffer) size) × Unpacks (told (sheetFault file buffer) size)
+CallsTell = (file buffer : List ℕ) (size : ℕ) → Unpacks (told (answerFault file buffer) size) × Unpacks (told (stockCallFault file buffer) size)
 
 -- 2 to the power of 32, and of 40
 abbrev pub packedSearched : Searched → ℕ
@@ -67,8 +66,3 @@ pub record Called {Result : Type 0} (pack : Result → ℕ) (Owes : Result → L
   pub owes : Owes told after
   pub returned : result ≡ pack told
   pub counted : counts ≡ countsOf t
-
-pub record SheetCalled (f before counts : List ℕ) (result : ℕ) (after new : List ℕ) : Type 0 where
-  pub returned : result ≡ packed (sheetPost f before)
-  pub leaves : after ≡ sheetLeaves f before
-  pub counted : new ≡ countsOf (stockTally f before (tallyOf counts))

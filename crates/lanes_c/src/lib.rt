@@ -1,5 +1,5 @@
 // The engine's calls for C and Rust (document 01, "Questions put to a call"), over numbers and slices alone; include/lanes.h declares them for C.
-//   lanes_graph, lanes_plan, lanes_sheet, lanes_budget, lanes_check    the calls
+//   lanes_graph, lanes_stock, lanes_budget, lanes_check  the calls
 //   tally_of, put_counts                                 four counts as a tally, and a tally as four counts
 //   count                                                one more of the count that an outcome names
 //   pack, pack_searched                                  a call's result as one number; the budgeted call's
@@ -11,12 +11,11 @@ use lanes::Verdict;
 use lanes::budget_calls::budget_by;
 use lanes::check;
 use lanes::graph_calls::answer_graph_by;
-use lanes::stock_calls::plan_by;
-use lanes::stock_calls::sheet_by;
+use lanes::stock_calls::stock_by;
 use lanes::tallies::counted;
 ghost use mathlib.Core.Path.{_≡_};
-ghost use Rattle.lanes.specs.Entry.{tallied, GraphOwes, PlanOwes, BudgetOwes, graphTally, stockTally, budgetTally, checkPost};
-ghost use Rattle.lanes_c.specs.Exported.{tallyOf, countsOf, packed, packedSearched, said, Called, SheetCalled};
+ghost use Rattle.lanes.specs.Entry.{tallied, GraphOwes, StockOwes, BudgetOwes, graphTally, stockTally, budgetTally, checkPost};
+ghost use Rattle.lanes_c.specs.Exported.{tallyOf, countsOf, packed, packedSearched, said, Called};
 
 fn tally_of(counts: &[u32; 4]) -> Tally
     ensures { λ r. ⌜ r ≡ tallyOf (now (counts .entry)) ⌝ }
@@ -65,20 +64,10 @@ pub extern "C" fn lanes_graph(file: &[u8], out: &mut [u8], tally: &mut [u32; 4])
 }
 
 #[no_mangle]
-pub extern "C" fn lanes_plan(file: &[u8], out: &mut [u8], tally: &mut [u32; 4]) -> u64
-    ensures { λ r. ⌜ Called packed (PlanOwes (now (file .entry)) (now (out .entry))) (stockTally (now (file .entry)) (now (out .entry)) (tallyOf (now (tally .entry)))) r (now (out .exit)) (now (tally .exit)) ⌝ }
+pub extern "C" fn lanes_stock(file: &[u8], out: &mut [u8], tally: &mut [u32; 4]) -> u64
+    ensures { λ r. ⌜ Called packed (StockOwes (now (file .entry)) (now (out .entry))) (stockTally (now (file .entry)) (now (out .entry)) (tallyOf (now (tally .entry)))) r (now (out .exit)) (now (tally .exit)) ⌝ }
 {
-    let answer = plan_by(file, out);
-    let outcome = answer.outcome;
-    count(tally, outcome);
-    pack(answer.told)
-}
-
-#[no_mangle]
-pub extern "C" fn lanes_sheet(file: &[u8], out: &mut [u8], tally: &mut [u32; 4]) -> u64
-    ensures { λ r. ⌜ SheetCalled (now (file .entry)) (now (out .entry)) (now (tally .entry)) r (now (out .exit)) (now (tally .exit)) ⌝ }
-{
-    let answer = sheet_by(file, out);
+    let answer = stock_by(file, out);
     let outcome = answer.outcome;
     count(tally, outcome);
     pack(answer.told)

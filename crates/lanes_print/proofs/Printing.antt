@@ -2,8 +2,7 @@
 --   text-prints, line-prints                   a text at the front of a buffer; a line written there
 --   answer-shows, refusal-shows                what a call told, as it is printed: its answer as it stands, the line of its refusal
 --   shown                                      it is a right answer, or the line of the refusal
---   one-prints                                 the same of an answer that is fixed
---   graph-prints, plan-prints, budget-prints, sheet-prints    the same of each call, where there is room
+--   graph-prints, stock-prints, budget-prints      the same of each call, where there is room
 use mathlib.Core.Path.{_≡_, refl, ap, sym, subst, _∙_}
 use mathlib.Core.Bool.{Bool, true, false}
 use mathlib.Core.List.{List}
@@ -14,20 +13,19 @@ use lib.Dec.{eqb}
 use lib.ListN.{length, drop, length-append}
 use Rattle.formats.specs.Limits.{room}
 use Rattle.io.proofs.Counting.{counts}
-use Rattle.counting.specs.Tests.{pick}
 use Rattle.counting.proofs.Booleans.{true-false}
 use Rattle.skew.specs.Graph.{hasPath, isWanted, canonical}
 use Rattle.frames.specs.Frames.{orElse}
 use Rattle.frames.specs.Writes.{Written}
 use Rattle.frames.proofs.Writes.{written-over, frame4-length}
 use Rattle.files.specs.GraphFile.{graphIn, graphFault}
-use Rattle.files.specs.StockFile.{stockIn, stockFault, planText}
+use Rattle.files.specs.StockFile.{stockIn, stockFault, planAndSheet}
 use Rattle.files.specs.CertificateFile.{pathText, barrierText}
 use Rattle.files.specs.Answers.{over}
-use Rattle.lanes.specs.Entry.{refusalLine, told, answerFault, sheetFault, Answers, GraphOwes, PlanOwes, sheetPost, sheetLeaves, sheetOfFile, mostFault, budgetFault, budgetTextOf, BudgetOwes}
+use Rattle.lanes.specs.Entry.{refusalLine, told, answerFault, stockCallFault, Answers, GraphOwes, StockOwes, mostFault, budgetFault, budgetTextOf, BudgetOwes}
 use Rattle.lanes.specs.declared.Told.{Told}
 use Rattle.lanes.specs.declared.Searched.{Searched}
-use Rattle.lanes_print.specs.Printed.{RefusedOr, GraphAnswer, GraphText, PlanAnswer, PlanText, BudgetAnswer, BudgetText, sheetPrinted, Shows, PrintsOne, Prints}
+use Rattle.lanes_print.specs.Printed.{RefusedOr, GraphAnswer, GraphText, StockAnswer, StockText, BudgetAnswer, BudgetText, Shows, PrintsOne, Prints}
 
 -- A TEXT AT THE FRONT
 pub text-prints : {text before after : List ℕ} {size : ℕ} → after ≡ over text before → size ≡ length text → PrintsOne text before after size
@@ -94,11 +92,11 @@ module _ (f : List ℕ) {o v w : List ℕ} {r : Told} {s : ℕ} (h : room ≤ le
       subst (λ (n : ℕ). Prints (RefusedOr n (GraphAnswer f)) o w s) e
       (shown (g .0) (λ z. graph-answer f (hasPath (graphIn f)) refl (g .1 z)) k)
 
-  pub plan-prints : PlanOwes f o r v → Shows r v w s → Prints (PlanText f) o w s
-  plan-prints g k =
-      let e : sheetFault f o ≡ stockFault f = rw (le-leb room (length o) h) in
-      subst (λ (n : ℕ). Prints (RefusedOr n (PlanAnswer f)) o w s) e
-      (shown (g .0) (λ z. let q = g .1 z in (planText (q .0), ((q .0, (q .1 .0, refl)), q .1 .1))) k)
+  pub stock-prints : StockOwes f o r v → Shows r v w s → Prints (StockText f) o w s
+  stock-prints g k =
+      let e : stockCallFault f o ≡ stockFault f = rw (le-leb room (length o) h) in
+      subst (λ (n : ℕ). Prints (RefusedOr n (StockAnswer f)) o w s) e
+      (shown (g .0) (λ z. let q = g .1 z in (planAndSheet (stockIn f) (q .0), ((q .0, (q .1 .0, refl)), q .1 .1))) k)
 
 pub budget-prints : (b : ℕ) (f : List ℕ) {o v w : List ℕ} {r : Searched} {s : ℕ} → room ≤ length o → BudgetOwes b f o r v → Shows (r .told) v w s →
     Prints (BudgetText b f) o w s
@@ -107,24 +105,3 @@ budget-prints b f {o} {v} {w} {r} {s} h g k =
     subst (λ (n : ℕ). Prints (RefusedOr n (BudgetAnswer b f)) o w s) e
     (shown (λ z. let q = g .0 z in (ap (λ (x : Searched). x .told) (q .0), q .1))
     (λ z. let q = g .1 z in (budgetTextOf (stockIn f) b (q .0), ((q .0, (q .1 .0, refl)), (ap (λ (x : Searched). x .told) (q .1 .1), q .1 .2)))) k)
-
-module _ {n : ℕ} (t : List ℕ) {o v w : List ℕ} {r : Told} {s : ℕ} (p : r ≡ told n (length t)) (q : v ≡ pick (eqb n 0) (over t o) o) (k : Shows r v w s) where
-  one-refused : eqb n 0 ≡ false → (r ≡ told n 0) × (v ≡ o)
-  one-refused e = (rw e (rw e at p), rw e at q)
-
-  one-answered : n ≡ 0 → (x : List ℕ) × ((x ≡ t) × Answers x o r v)
-  one-answered e = (t, (refl, (rw e at p, rw e at q)))
-
-  one-text : (z : Bool) → eqb n 0 ≡ z → Prints (RefusedOr n (λ (x : List ℕ). x ≡ t)) o w s → PrintsOne (pick (eqb n 0) t (refusalLine n)) o w s
-  one-text false e y = rw (e, ← (y .right .0 e)) (y .printed)
-  one-text true e y = rw (e, ← (y .right .1 (eqb-true n 0 e))) (y .printed)
-
-  -- the answer is fixed
-  pub one-prints : PrintsOne (pick (eqb n 0) t (refusalLine n)) o w s
-  one-prints = one-text (eqb n 0) refl (shown one-refused one-answered k)
-
-pub sheet-prints : (f : List ℕ) {o v w : List ℕ} {r : Told} {s : ℕ} → room ≤ length o → r ≡ sheetPost f o → v ≡ sheetLeaves f o → Shows r v w s →
-    PrintsOne (sheetPrinted f) o w s
-sheet-prints f {o} {w = w} {s = s} h p q k =
-    let e : sheetFault f o ≡ stockFault f = rw (le-leb room (length o) h) in
-    subst (λ (n : ℕ). PrintsOne (pick (eqb n 0) (sheetOfFile f) (refusalLine n)) o w s) e (one-prints (sheetOfFile f) p q k)

@@ -2,9 +2,8 @@
 -- room enough, so that question 1 is answered yes.
 --   RefusedOr number Right text           the text is the refusal's line or, where there is none, right
 --   GraphAnswer, GraphText file text      the text is an answer to a graph, and is what is printed for it: which path is left free
---   PlanAnswer, PlanText file text        the same of a stock's plan: which largest one is left free
+--   StockAnswer, StockText file text      the same of a stock, a plan directly followed by the standing sheet: which largest plan is left free
 --   BudgetAnswer, BudgetText most file text     the same of a budget of searches: which pairing is left free
---   sheetPrinted file                     a stock's standing sheet, or the refusal
 --   verdictPrinted graph cert             the check's line
 --   Shows told before after size          what a call told, as it is printed: its answer as it stands in the buffer, or the line of its refusal
 --   PrintsOne text before after size      the text stands at the front and nothing else differs; its size counts bytes of the buffer
@@ -21,10 +20,10 @@ use Rattle.skew.specs.Graph.{hasPath, isWanted, canonical}
 use Rattle.matching.specs.Stock.{isPlan}
 use Rattle.matching.specs.Budget.{isBudgeted}
 use Rattle.files.specs.GraphFile.{graphIn, graphFault}
-use Rattle.files.specs.StockFile.{stockIn, stockFault, planText}
+use Rattle.files.specs.StockFile.{stockIn, stockFault, planAndSheet}
 use Rattle.files.specs.CertificateFile.{pathText, barrierText}
 use Rattle.frames.specs.Frames.{orElse}
-use Rattle.lanes.specs.Entry.{refusalLine, sheetOfFile, checkPost, verdictLine, mostFault, budgetTextOf}
+use Rattle.lanes.specs.Entry.{refusalLine, checkPost, verdictLine, mostFault, budgetTextOf}
 use Rattle.files.specs.Answers.{over, WrittenFirst}
 use Rattle.lanes.specs.declared.Told.{Told}
 
@@ -40,20 +39,17 @@ GraphAnswer f t =
 abbrev pub GraphText : (file text : List ℕ) → Type 0
 GraphText f t = RefusedOr (graphFault f) (GraphAnswer f) t
 
-abbrev pub PlanAnswer : (file text : List ℕ) → Type 0
-PlanAnswer f t = (ps : List Pair) × ((isPlan (stockIn f) ps ≡ true) × (t ≡ planText ps))
+abbrev pub StockAnswer : (file text : List ℕ) → Type 0
+StockAnswer f t = (ps : List Pair) × ((isPlan (stockIn f) ps ≡ true) × (t ≡ planAndSheet (stockIn f) ps))
 
-abbrev pub PlanText : (file text : List ℕ) → Type 0
-PlanText f t = RefusedOr (stockFault f) (PlanAnswer f) t
+abbrev pub StockText : (file text : List ℕ) → Type 0
+StockText f t = RefusedOr (stockFault f) (StockAnswer f) t
 
 abbrev pub BudgetAnswer : (most : ℕ) → (file text : List ℕ) → Type 0
 BudgetAnswer b f t = (ps : List Pair) × ((isBudgeted (stockIn f) b ps ≡ true) × (t ≡ budgetTextOf (stockIn f) b ps))
 
 abbrev pub BudgetText : (most : ℕ) → (file text : List ℕ) → Type 0
 BudgetText b f t = RefusedOr (orElse (mostFault b) (stockFault f)) (BudgetAnswer b f) t
-
-abbrev pub sheetPrinted : (file : List ℕ) → List ℕ
-sheetPrinted f = pick (eqb (stockFault f) 0) (sheetOfFile f) (refusalLine (stockFault f))
 
 abbrev pub verdictPrinted : (graph cert : List ℕ) → List ℕ
 verdictPrinted f c = verdictLine (checkPost f c)

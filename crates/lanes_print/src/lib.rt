@@ -1,8 +1,8 @@
 // What the programs print (document 01, "Questions put to a call": Programs), at the front of a lent buffer: an answer's lines, or the one line of a
 // refusal or of the check. Each function answers how many bytes there are to print.
-//   print_graph, print_plan, print_budget, print_sheet, print_check    what each program prints
-//   argument                                             a number of searches as it is typed
-//   show, show_verdict                                   what a call told, and what the check says
+//   print_graph, print_stock, print_budget, print_check   what each program prints
+//   argument                                              a number of searches as it is typed
+//   show, show_verdict                                    what a call told, and what the check says
 mod argument;
 
 use argument::most_said;
@@ -13,14 +13,13 @@ use lanes::Verdict;
 use lanes::budget_calls::budget_by;
 use lanes::check;
 use lanes::graph_calls::answer_graph_by;
-use lanes::stock_calls::plan_by;
-use lanes::stock_calls::sheet_by;
+use lanes::stock_calls::stock_by;
 ghost use Prim.Native.Nat.{_≤_};
 ghost use lib.ListN.{length};
 ghost use Rattle.formats.specs.Limits.{room};
 ghost use Rattle.lanes.specs.Entry.{verdictLine};
 ghost use Rattle.lanes_print.specs.Argument.{mostSaid};
-ghost use Rattle.lanes_print.specs.Printed.{Shows, Prints, PrintsOne, GraphText, PlanText, BudgetText, sheetPrinted, verdictPrinted};
+ghost use Rattle.lanes_print.specs.Printed.{Shows, Prints, PrintsOne, GraphText, StockText, BudgetText, verdictPrinted};
 
 // An answer is printed as it stands; in a refusal's place its line.
 fn show(out: &mut [u8], told: Told) -> usize
@@ -53,11 +52,11 @@ pub fn print_graph(file: &[u8], out: &mut [u8]) -> usize
     show(out, answer.told)
 }
 
-pub fn print_plan(file: &[u8], out: &mut [u8]) -> usize
+pub fn print_stock(file: &[u8], out: &mut [u8]) -> usize
     requires { ⌜ room ≤ length (now out) ⌝ }
-    ensures { λ r. ⌜ Prints (PlanText (now (file .entry))) (now (out .entry)) (now (out .exit)) r ⌝ }
+    ensures { λ r. ⌜ Prints (StockText (now (file .entry))) (now (out .entry)) (now (out .exit)) r ⌝ }
 {
-    let answer = plan_by(file, out);
+    let answer = stock_by(file, out);
     show(out, answer.told)
 }
 
@@ -68,14 +67,6 @@ pub fn print_budget(argument: &[u8], file: &[u8], out: &mut [u8]) -> usize
     let answer = budget_by(file, most_said(argument), out);
     let searched = answer.searched;
     show(out, searched.told)
-}
-
-pub fn print_sheet(file: &[u8], out: &mut [u8]) -> usize
-    requires { ⌜ room ≤ length (now out) ⌝ }
-    ensures { λ r. ⌜ PrintsOne (sheetPrinted (now (file .entry))) (now (out .entry)) (now (out .exit)) r ⌝ }
-{
-    let answer = sheet_by(file, out);
-    show(out, answer.told)
 }
 
 pub fn print_check(graph: &[u8], cert: &[u8], out: &mut [u8]) -> usize

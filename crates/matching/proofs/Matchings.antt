@@ -3,7 +3,7 @@
 --   matching-low, matching-injective                 an involution's partner of a camera
 --   unlit-in, in-unlit, unlit-distinct               the cameras left over
 --   lights-count                                     2 · pairs + unlit ≡ cameras
---   list-fits, list-partner, list-matching, list-lights, list-count
+--   list-fits, list-named, list-partner, list-matching, list-lights, list-count
 --                                                    from a list of pairs
 --   lit-in, in-lit, lit-rising, lit-lights, lit-pairing, lit-count
 --                                                    to the list of fits that are lit
@@ -99,6 +99,9 @@ module _ (n : ℕ) (fs : List Pair) (F : FitsBelow n fs) where
   module _ (ps : List Pair) (e : isPairing fs ps ≡ true) where
     pub list-fits : (x : Pair) → In x ps → In x fs
     list-fits x m = has-pair-in fs x (all-each (hasPair fs) ps (and-two (all (hasPair fs) ps) (noneShared ps) e .0) x m)
+
+    pub list-named : (x : Pair) → In x ps → (x .first < x .second) × (x .second < n)
+    list-named x m = let f = list-fits x m in (rising-ordered fs (F .rising) x f, F .named x f)
 
     list-once : Distinct (ends ps)
     list-once =

@@ -5,8 +5,7 @@
 --   row-lit                                   the row of the lit pairs
 --   enough-searches                           question 15's most searches are enough for every stock
 --   budget-listed                             after a run: its numbers are those defined, and the row's pairs are such a pairing
---   largest-sheet                             with searches enough: the marks, and the greatest number of pairs
---   plan-listed                               and the pairs are a plan
+--   plan-marked                               with searches enough: the pairs are a plan, and the nodes that the last search reached tell the marks
 use mathlib.Core.Path.{_≡_, refl, sym, ap, subst, _∙_}
 use mathlib.Core.Bool.{Bool, true, false}
 use mathlib.Core.List.{List}
@@ -29,15 +28,14 @@ use Rattle.matching.specs.Matching.{FitsBelow, Matching, unlit, partner, litFit
 use Rattle.matching.specs.Row.{partnerIn}
 use Rattle.matching.specs.Flags.{isFlagged}
 use Rattle.matching.specs.DoubledTable.{doubledTable, marksBy}
-use Rattle.matching.proofs.Rising.{rising-ordered}
-use Rattle.matching.proofs.Matchings.{list-fits, list-matching, list-count, lit-pairing, lit-count}
+use Rattle.matching.proofs.Matchings.{list-named, list-matching, list-count, lit-pairing, lit-count}
 use Rattle.matching.proofs.InOrder.{pairs-lit}
 use Rattle.matching.proofs.Greatest.{greatest-bound}
 use Rattle.matching.proofs.Largest.{no-path-marks, no-path-pairs}
 use Rattle.matching.proofs.Plans.{augmented-budgeted}
 use Rattle.matching.proofs.Promises.{well-formed-fits, well-formed-lit, gain-few, budget-plans}
 use Rattle.pairing.specs.Table.{stockOf, PairTable, FitTable, PairsWritten}
-use Rattle.pairing.specs.Plan.{StockTable, Ended, Stepped, Improving, Ran, RanFrom, BudgetListed, PlanListed, Sheet}
+use Rattle.pairing.specs.Plan.{StockTable, Ended, Stepped, Improving, Ran, RanFrom, BudgetListed, PlanMarked}
 use Rattle.pairing.specs.declared.plan.Ending.{Ending}
 use Rattle.pairing.specs.declared.plan.PairsFound.{PairsFound}
 
@@ -107,7 +105,7 @@ module _ (n : ℕ) (firsts seconds litFirsts litSeconds : List ℕ) (T : StockTa
       named i h =
           let x = pair (getD litFirsts i 0) (getD litSeconds i 0) in
           let m : In x ps = rw (← zip-at litFirsts litSeconds i (T .lit-as-long) h) (getD-in ps noPair i (omega (arith, zip-length litFirsts litSeconds (T .lit-as-long)))) in
-          let f = list-fits n fs F ps lit x m in (rising-ordered fs (F .rising) x f, F .named x f)
+          list-named n fs F ps lit x m
 
   stock-matching : Matching fs (partner ps)
   stock-matching = list-matching n fs F ps lit
@@ -173,22 +171,23 @@ module _ (n : ℕ) (firsts seconds litFirsts litSeconds : List ℕ) (T : StockTa
           written = W;
         }
 
-    pub largest-sheet : most ≡ searchesMost → (ms₀ : List ℕ) {ms : List ℕ} {k : ℕ} → length ms₀ ≡ n → ms ≡ marksBy (isIncluded fs) (isFlagged reached) (below (length ms₀)) → k ≡ length (pairsInOrder p (below (length row))) →
-        Sheet n fs ms k
-    largest-sheet enough ms₀ l m c =
-        let E = ended enough in
+    -- question 15's most searches are enough: the last one found none, and the pairs are a plan
+    pub plan-marked : most ≡ searchesMost → {xs ys xs′ ys′ : List ℕ} {k : ℕ} (ms₀ : List ℕ) {ms : List ℕ} →
+        PairsWritten xs ys 0 xs′ ys′ k (pairsInOrder p (below (length row))) → length ms₀ ≡ n →
+        ms ≡ marksBy (isIncluded fs) (isFlagged reached) (below (length ms₀)) → PlanMarked s xs ys xs′ ys′ ms k
+    plan-marked whole {k = k} ms₀ W l m =
+        let enough : gain s < most = omega (arith, enough-searches s (T .well-formed) (T .cameras-few)) in
+        let E = R .none (counts .2 ∙ lt-ltb (gain s) most enough) .2 in
+        let B = budget-listed {k = record { pairs = k; ending = r }} W refl in
         record {
+          pairs = B .pairs;
+          plan = sym (budget-plans s most (B .pairs) (T .well-formed) enough .0) ∙ B .budgeted;
+          written = B .written;
           marks =
               m ∙ ap (λ (k : ℕ). marksBy (isIncluded fs) (isFlagged reached) (below k)) l ∙
               sym (no-path-marks n fs F p M (no-path E) (isFlagged reached)
               (subst (λ (k : ℕ). (v : ℕ) → v < 2 * suc k → isFlagged reached v ≡ isReachable (doubledTable k fs p) v) same (E .tells)));
-          count =
-              c ∙ ap (λ (k : ℕ). length (pairsInOrder p (below k))) same ∙ ap (λ (xs : List Pair). length xs) (pairs-lit n fs F p M) ∙
-              no-path-pairs n fs F p M (no-path E);
         }
-      where
-        ended : most ≡ searchesMost → Ended fs row reached
-        ended enough = R .none (counts .2 ∙ lt-ltb (gain s) most (omega (arith, enough-searches s (T .well-formed) (T .cameras-few)))) .2
 
 -- a row read from the lit pairs
 pub row-lit : (row₀ row firsts seconds litFirsts litSeconds : List ℕ) → StockTable (length row) firsts seconds litFirsts litSeconds → length row₀ ≡ length row → partnerIn row₀ ≡ partner (zipPairs litFirsts litSeconds) →
@@ -197,13 +196,3 @@ row-lit row₀ row firsts seconds litFirsts litSeconds T e q = (
   subst (λ (m : ℕ). FitTable m firsts seconds) (sym e) (stock-fits (length row) firsts seconds litFirsts litSeconds T),
   subst (λ (p : ℕ → ℕ). Matching (zipPairs firsts seconds) p) (sym q) (stock-matching (length row) firsts seconds litFirsts litSeconds T),
 )
-
--- with as many searches as question 15 allows, a budget is a plan
-pub plan-listed : {s : Stock} → WellFormedStock s → s .cameras ≤ camerasMost → {xs ys xs′ ys′ : List ℕ} {k : PairsFound} → BudgetListed searchesMost s xs ys xs′ ys′ k →
-    PlanListed s xs ys xs′ ys′ (k .pairs)
-plan-listed {s} W few B =
-    record {
-      pairs = B .pairs;
-      plan = sym (budget-plans s searchesMost (B .pairs) W (enough-searches s W few) .0) ∙ B .budgeted;
-      written = B .written;
-    }

@@ -1,17 +1,15 @@
 -- A row read from pairs, and its pairs written camera by camera.
 --   lit-none, lit-one                          no pair lit; one pair more, from the last to the first
 --   pairs-left-first, pairs-left-none, pairs-left-all      the next camera's pair; no camera left; all
---   count-taken, count-left                    how many pairs are left, by the next camera
 --   pair-few                                   at most one pair for a camera
 use mathlib.Core.Path.{_≡_, refl, sym, ap, _∙_}
 use mathlib.Core.List.{List, [], _++_}
 use Prim.Native.Nat.{ℕ, _+_, _-_, _≤_, _<_}
 use native.Mathlib.Omega.{arith}
 use lib.Dec.{ltb}
-use lib.ListN.{length, getD, drop, length-append}
-use borrow.Author.Tests.{lt-ltb, le-ltb}
+use lib.ListN.{length, getD, drop}
 use Rattle.counting.specs.Tests.{below, upFrom}
-use Rattle.counting.specs.Pairs.{Pair, pair, zipPairs}
+use Rattle.counting.specs.Pairs.{pair, zipPairs}
 use Rattle.counting.proofs.Booleans.{by-test}
 use Rattle.counting.proofs.Range.{up-cons, up-none}
 use Rattle.matching.specs.Matching.{partner, pairOf, pairsInOrder}
@@ -45,13 +43,3 @@ pairs-left-none row k h = ap (λ (l : List ℕ). pairsInOrder (partnerIn row) l)
 
 pub pairs-left-all : (row : List ℕ) → pairsLeft row 0 ≡ pairsInOrder (partnerIn row) (below (length row))
 pairs-left-all row = let e : length row - 0 ≡ length row = omega arith in ap (λ (m : ℕ). pairsInOrder (partnerIn row) (upFrom 0 m)) e
-
-pub count-taken : (row : List ℕ) (k : ℕ) → k < length row → k < getD row k 0 → length (pairsLeft row k) ≡ 1 + length (pairsLeft row (k + 1))
-count-taken row k h l =
-    let e : length (pairOf k (getD row k 0)) ≡ 1 = rw (lt-ltb k (getD row k 0) l) in
-    ap (λ (z : List Pair). length z) (pairs-left-first row k h) ∙ omega (arith, length-append (pairOf k (getD row k 0)) (pairsLeft row (k + 1)))
-
-pub count-left : (row : List ℕ) (k : ℕ) → k < length row → getD row k 0 ≤ k → length (pairsLeft row k) ≡ length (pairsLeft row (k + 1))
-count-left row k h l =
-    let e : length (pairOf k (getD row k 0)) ≡ 0 = rw (le-ltb k (getD row k 0) l) in
-    ap (λ (z : List Pair). length z) (pairs-left-first row k h) ∙ omega (arith, length-append (pairOf k (getD row k 0)) (pairsLeft row (k + 1)))

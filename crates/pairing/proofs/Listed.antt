@@ -1,5 +1,5 @@
 -- What a caller reads of a pairing that it was handed at the front of two tables.
---   plan-pairing      a plan is a pairing
+--   plan-pairing, plan-greatest     a plan is a pairing, with the greatest number of pairs
 --   listed-few        two cameras for each pair
 --   listed-read       the pairs, read back
 use mathlib.Core.Path.{_≡_}
@@ -7,11 +7,13 @@ use mathlib.Core.Bool.{true}
 use mathlib.Core.List.{List}
 use Prim.Native.Nat.{ℕ, _*_, _≤_}
 use native.Mathlib.Omega.{arith}
+use lib.Dec.{eqb}
 use lib.ListN.{length}
+use borrow.Author.Tests.{eqb-true}
 use Rattle.counting.specs.Pairs.{Pair, pairsOf}
 use Rattle.counting.proofs.Booleans.{and-five}
 use Rattle.counting.proofs.Zips.{pairs-stored}
-use Rattle.matching.specs.Stock.{Stock, isPairing, isPlan}
+use Rattle.matching.specs.Stock.{Stock, isPairing, greatest, pairsRise, keepsLit, isPlan}
 use Rattle.matching.specs.Promise.{WellFormedStock}
 use Rattle.matching.proofs.Matchings.{list-count}
 use Rattle.matching.proofs.Promises.{well-formed-fits}
@@ -19,6 +21,11 @@ use Rattle.pairing.specs.Table.{PairsWritten}
 
 pub plan-pairing : (s : Stock) (ps : List Pair) → isPlan s ps ≡ true → isPairing (s .fits) ps ≡ true
 plan-pairing s ps h = and-five _ _ _ _ _ h .0
+
+pub plan-greatest : (s : Stock) (ps : List Pair) → isPlan s ps ≡ true → length ps ≡ greatest (s .fits)
+plan-greatest s ps h =
+    let most = eqb (length ps) (greatest (s .fits)) in
+    eqb-true (length ps) (greatest (s .fits)) (and-five (isPairing (s .fits) ps) most (keepsLit s ps) (pairsRise ps) _ h .1)
 
 module _ {s : Stock} (W : WellFormedStock s) {ps : List Pair} (P : isPairing (s .fits) ps ≡ true) {xs ys xs′ ys′ : List ℕ} {r : ℕ} (w : PairsWritten xs ys 0 xs′ ys′ r ps) where
   pub listed-few : 2 * r ≤ s .cameras

@@ -6,8 +6,7 @@
 --   Ran most fs row₀ row reached r           so many searches, and one more that found none; or as many as may be run
 --   RanFrom most fs ps n row reached r       the same from the row of the pairs ps of n cameras
 --   BudgetListed most s xs ys xs′ ys′ r      the pairs that so many searches come to stand at the front of two tables, with the numbers defined
---   PlanListed s xs ys xs′ ys′ r             r pairs of a plan stand there
---   Sheet n fs ms r                          the marks and the greatest number of pairs, by the cameras and the fits alone
+--   PlanMarked s xs ys xs′ ys′ ms r          r pairs of a plan stand there, and ms is every camera's mark, by the cameras and the fits alone
 use mathlib.Core.Path.{_≡_}
 use mathlib.Core.Logic.{_≢_}
 use mathlib.Core.Bool.{Bool, true, false}
@@ -17,7 +16,7 @@ use lib.ListN.{length}
 use Rattle.formats.specs.Limits.{camerasMost, fitsMost}
 use Rattle.counting.specs.Pairs.{Pair}
 use Rattle.skew.specs.Graph.{isReachable, hasPath}
-use Rattle.matching.specs.Stock.{Stock, greatest, marksOf, isPlan}
+use Rattle.matching.specs.Stock.{Stock, marksOf, isPlan}
 use Rattle.matching.specs.Promise.{WellFormedStock}
 use Rattle.matching.specs.Budget.{searchesRun, foundNone, isBudgeted}
 use Rattle.matching.specs.Matching.{Matching, unlit, partner}
@@ -70,11 +69,8 @@ pub record BudgetListed (most : ℕ) (s : Stock) (xs ys xs′ ys′ : List ℕ) 
   pub none : r .ending .none ≡ foundNone s most
   pub written : PairsWritten xs ys 0 xs′ ys′ (r .pairs) pairs
 
-pub record PlanListed (s : Stock) (xs ys xs′ ys′ : List ℕ) (r : ℕ) : Type 0 where
+pub record PlanMarked (s : Stock) (xs ys xs′ ys′ ms : List ℕ) (r : ℕ) : Type 0 where
   pub pairs : List Pair
   pub plan : isPlan s pairs ≡ true
   pub written : PairsWritten xs ys 0 xs′ ys′ r pairs
-
-pub record Sheet (n : ℕ) (fs : List Pair) (ms : List ℕ) (r : ℕ) : Type 0 where
-  pub marks : ms ≡ marksOf n fs
-  pub count : r ≡ greatest fs
+  pub marks : ms ≡ marksOf (s .cameras) (s .fits)

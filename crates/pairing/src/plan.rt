@@ -15,8 +15,7 @@
 //   run_searches         one after the other, up to so many
 //   search_from_lit      from the row of the lit pairs
 //   budget, budget_in    the pairs that so many searches come to; the same with the row lent
-//   plan                 the pairs of a plan: searches enough
-//   sheet, sheet_in      marks and the greatest number of pairs, with searches enough; the same with the row and the reached nodes lent
+//   plan, plan_in        a plan and every camera's mark, with searches enough; the same with the row and the reached nodes lent
 ghost use mathlib.Core.Path.{_≡_};
 ghost use Prim.Native.Nat.{_+_, _*_, _≤_};
 ghost use lib.ListN.{length};
@@ -24,10 +23,9 @@ ghost use Rattle.matching.specs.Matching.{Matching};
 ghost use Rattle.matching.specs.Row.{partnerIn};
 ghost use Rattle.counting.specs.Pairs.{zipPairs};
 ghost use Rattle.pairing.specs.Table.{stockOf, FitTable};
-ghost use Rattle.pairing.specs.Plan.{StockTable, Stepped, Ran, RanFrom, BudgetListed, PlanListed, Sheet};
+ghost use Rattle.pairing.specs.Plan.{StockTable, Stepped, Ran, RanFrom, BudgetListed, PlanMarked};
 use crate::marks::marks_of;
 use crate::row::augment;
-use crate::row::pair_count;
 use crate::row::pairs_of;
 use crate::row::row_of;
 use crate::table::table;
@@ -184,47 +182,23 @@ pub fn budget(
     )
 }
 
-// The pairs of a plan at the front of `pair_firsts` and `pair_seconds`: how many.
-pub fn plan(
-    cameras: usize,
-    firsts: &[u8],
-    seconds: &[u8],
-    lit_firsts: &[u8],
-    lit_seconds: &[u8],
-    pair_firsts: &mut [u8],
-    pair_seconds: &mut [u8],
-) -> usize
-    requires { ⌜ StockTable cameras (now firsts) (now seconds) (now «lit_firsts») (now «lit_seconds») ⌝ }
-    requires { ⌜ (cameras ≤ length (now «pair_firsts»)) × (cameras ≤ length (now «pair_seconds»)) ⌝ }
-    ensures { λ r. ⌜ PlanListed (stockOf cameras (now (firsts .entry)) (now (seconds .entry)) (now («lit_firsts» .entry)) (now («lit_seconds» .entry))) (now («pair_firsts» .entry)) (now («pair_seconds» .entry)) (now («pair_firsts» .exit)) (now («pair_seconds» .exit)) r ⌝ }
-{
-    let found = budget(
-        SEARCHES_MOST,
-        cameras,
-        firsts,
-        seconds,
-        lit_firsts,
-        lit_seconds,
-        pair_firsts,
-        pair_seconds,
-    );
-    found.pairs
-}
-
-// A standing sheet, with the row and the table of reached nodes lent.
-fn sheet_in(
+// A plan and every camera's mark, with the row and the table of reached nodes lent.
+fn plan_in(
     row: &mut [u8],
     firsts: &[u8],
     seconds: &[u8],
     lit_firsts: &[u8],
     lit_seconds: &[u8],
     reached: &mut [u8],
+    pair_firsts: &mut [u8],
+    pair_seconds: &mut [u8],
     marks: &mut [u8],
 ) -> usize
     requires { ⌜ StockTable (length (now row)) (now firsts) (now seconds) (now «lit_firsts») (now «lit_seconds») ⌝ }
     requires { ⌜ length (now reached) ≡ 2 * (length (now row) + 1) ⌝ }
+    requires { ⌜ (length (now row) ≤ length (now «pair_firsts»)) × (length (now row) ≤ length (now «pair_seconds»)) ⌝ }
     requires { ⌜ length (now marks) ≡ length (now row) ⌝ }
-    ensures { λ r. ⌜ Sheet (length (now (row .entry))) (zipPairs (now (firsts .entry)) (now (seconds .entry))) (now (marks .exit)) r ⌝ }
+    ensures { λ r. ⌜ PlanMarked (stockOf (length (now (row .entry))) (now (firsts .entry)) (now (seconds .entry)) (now («lit_firsts» .entry)) (now («lit_seconds» .entry))) (now («pair_firsts» .entry)) (now («pair_seconds» .entry)) (now («pair_firsts» .exit)) (now («pair_seconds» .exit)) (now (marks .exit)) r ⌝ }
 {
     search_from_lit(
         SEARCHES_MOST,
@@ -236,31 +210,36 @@ fn sheet_in(
         reached,
     );
     marks_of(firsts, seconds, reached, marks);
-    pair_count(row)
+    pairs_of(row, pair_firsts, pair_seconds)
 }
 
-// Every camera's mark, and the greatest number of pairs.
-pub fn sheet(
+// The pairs of a plan at the front of `pair_firsts` and `pair_seconds`, how many, and every camera's mark.
+pub fn plan(
     firsts: &[u8],
     seconds: &[u8],
     lit_firsts: &[u8],
     lit_seconds: &[u8],
+    pair_firsts: &mut [u8],
+    pair_seconds: &mut [u8],
     marks: &mut [u8],
 ) -> usize
     requires { ⌜ StockTable (length (now marks)) (now firsts) (now seconds) (now «lit_firsts») (now «lit_seconds») ⌝ }
-    ensures { λ r. ⌜ Sheet (length (now (marks .entry))) (zipPairs (now (firsts .entry)) (now (seconds .entry))) (now (marks .exit)) r ⌝ }
+    requires { ⌜ (length (now marks) ≤ length (now «pair_firsts»)) × (length (now marks) ≤ length (now «pair_seconds»)) ⌝ }
+    ensures { λ r. ⌜ PlanMarked (stockOf (length (now (marks .entry))) (now (firsts .entry)) (now (seconds .entry)) (now («lit_firsts» .entry)) (now («lit_seconds» .entry))) (now («pair_firsts» .entry)) (now («pair_seconds» .entry)) (now («pair_firsts» .exit)) (now («pair_seconds» .exit)) (now (marks .exit)) r ⌝ }
 {
     let mut row = [0u8; CAMERAS_MOST];
     let mut reached = [0u8; 256];
     let cameras = marks.len();
     let nodes = 2 * (cameras + 1);
-    sheet_in(
+    plan_in(
         &mut row[..cameras],
         firsts,
         seconds,
         lit_firsts,
         lit_seconds,
         &mut reached[..nodes],
+        pair_firsts,
+        pair_seconds,
         marks,
     )
 }

@@ -4,7 +4,6 @@
 //   clear_row, light_pairs    no pair lit; each lit
 //   row_of                    both: the row of a list of pairs
 //   put_pair, pairs_of        a camera's pair written; the pairs of a row in order
-//   pair_count                how many there are
 ghost use mathlib.Core.Path.{_≡_};
 ghost use mathlib.Core.List.{[]};
 ghost use Prim.Native.Nat.{_<_, _≤_};
@@ -115,21 +114,4 @@ pub fn pairs_of(row: &[u8], pair_firsts: &mut [u8], pair_seconds: &mut [u8]) -> 
         k += 1;
     }
     at
-}
-
-// How many pairs a row has.
-pub fn pair_count(row: &[u8]) -> usize
-    requires { ⌜ length (now row) ≤ camerasMost ⌝ }
-    ensures { λ r. ⌜ r ≡ length (pairsInOrder (partnerIn (now (row .entry))) (below (length (now (row .entry))))) ⌝ }
-{
-    let mut count: usize = 0;
-    let mut k: usize = 0;
-    // invariant: those counted and specs/Row pairsLeft are all; falls: cameras left
-    while k < row.len() {
-        if (k as u8) < row[k] {
-            count += 1;
-        }
-        k += 1;
-    }
-    count
 }
