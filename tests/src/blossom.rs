@@ -3,6 +3,7 @@
 //!   Search                  one search for an augmenting path from an unmatched vertex
 //!   augment                 makes a matching one larger by a path from a root, or tells the vertices that even alternating paths reach
 //!   enlarge                 a maximum matching that covers all that a given matching covers
+//!   marks_from              marks by even alternating paths from the cameras that a pairing leaves over
 //!   standing                greatest number of pairs and marks: a camera that fits another is marked 00 if the maximum stays without it
 //! A search keeps, for each vertex, the base of the blossom it lies in; blossoms are contracted by giving all their vertices one base.
 
@@ -184,6 +185,29 @@ pub fn standing(cameras: usize, fits: &[Pair]) -> Standing {
     };
     let left_over: Vec<bool> = (0..cameras).map(stays_without).collect();
     Standing { greatest: size(&largest), marks: marks(&lists, &left_over) }
+}
+
+/// Whether a path of even length leads to each vertex from one that the matching leaves over, its edges by turns outside and inside of
+/// it, or the vertex is such a one. Otherwise its partner is the end of a path that is one edge shorter and goes around the vertex.
+fn evenly_reached(lists: &[Vec<usize>], partner: &Partners) -> Vec<bool> {
+    let is_reached = |vertex: usize| {
+        let Some(other) = partner[vertex] else {
+            return true;
+        };
+        let mut freed = partner.clone();
+        (freed[vertex], freed[other]) = (None, None);
+        let mut search = Search::new(lists, &freed, other);
+        // taken for one that was met before, the vertex is not entered
+        search.before[vertex] = Some(vertex);
+        search.run().is_some()
+    };
+    (0..lists.len()).map(is_reached).collect()
+}
+
+/// Where the pairs are largest, these are a stock's marks.
+pub fn marks_from(cameras: usize, fits: &[Pair], pairs: &[Pair]) -> Vec<usize> {
+    let lists = neighbours(cameras, fits);
+    marks(&lists, &evenly_reached(&lists, &partners(cameras, pairs)))
 }
 
 /// By the cameras that each one fits.

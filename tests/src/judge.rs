@@ -7,6 +7,9 @@
 //!   budget                a file and a number of searches handed to the call with a budget, and judged; the answer
 //!   budget_owing, budget_all_ways    the same where the truth is at hand; with all line ends
 //!   budget_failing        the same where some questions are answered no: the engine's number is counted, with the others of them
+//!   stock_owing, stock_failing    the same of the call for a stock alone, where the truth is at hand
+//!   lend, lend_over       one call with a buffer of a size, or over what a buffer holds; the answer
+//!   Lent, one_after_another    what is lent to calls in a row, each of which is judged whole: a buffer and a tally
 //!   given                 an answer as the engine gives it, whatever the documents say of it
 //!   self_arcs             a graph file with self arcs handed to the graph call and to the check; the engine's numbers are counted
 //!   short_buffers         the same with a buffer that is too small
@@ -65,6 +68,14 @@ pub struct Judge<'a> {
 
 pub const LEAST_ROOM: usize = 2_048;
 
+/// A buffer with bytes before and after it, and a tally.
+pub struct Lent {
+    bytes: Vec<u8>,
+    start: usize,
+    room: usize,
+    tally: Tally,
+}
+
 /// Bytes before and after the lent buffer, which no call may touch; some more before it, so that it may stand at any address.
 const MARGIN: usize = 64;
 
@@ -104,7 +115,7 @@ impl<'a> Judge<'a> {
             let long = is_too_long(&other);
             read_alike(&read, stock_trial::read(&other), &other)?;
             self.seen.files += 1;
-            self.stock_owing(&other, if long { &StockTruth::Refused(2) } else { &truth })?;
+            self.both_owing(&other, if long { &StockTruth::Refused(2) } else { &truth })?;
         }
         Ok(())
     }
@@ -235,21 +246,40 @@ impl<'a> Judge<'a> {
     }
 
     fn as_stock(&mut self, file: &[u8]) -> Trial {
-        self.stock_owing(file, &stock_truth(file))
+        self.both_owing(file, &stock_truth(file))
     }
 
-    fn stock_owing(&mut self, file: &[u8], truth: &StockTruth) -> Trial {
+    /// By the call for a stock, and by the one with a budget.
+    fn both_owing(&mut self, file: &[u8], truth: &StockTruth) -> Trial {
         if let StockTruth::Accepted(stock, _) = truth {
             self.seen.stock(stock);
         }
-        let (room, short) = self.rooms();
-        self.lend(Call::Stock, file, room, &stock_owed(truth))?;
+        self.stock_owing(file, truth)?;
         let most = self.some_most();
         self.budget_owing(file, most, truth)?;
-        if let Some(room) = short {
+        if let Some(room) = self.rooms().1 {
             self.lend(Call::Stock, file, room, &stock_owed(truth))?;
             self.lend(Call::Budget(most), file, room, &budget_owed(truth, most))?;
         }
+        Ok(())
+    }
+
+    pub fn stock_owing(&mut self, file: &[u8], truth: &StockTruth) -> Result<Vec<u8>, String> {
+        let room = self.rooms().0;
+        let answer = self.lend(Call::Stock, file, room, &stock_owed(truth))?;
+        if let StockTruth::Accepted(stock, standing) = truth {
+            self.seen.printout(stock, standing, &answer);
+        }
+        Ok(answer)
+    }
+
+    /// A file that was made to fail these questions, with a room that is too small, or else one that is large enough.
+    pub fn stock_failing(&mut self, file: &[u8], short: Option<usize>, truth: &StockTruth, faults: &[u8]) -> Trial {
+        let room = short.unwrap_or_else(|| self.rooms().0);
+        let (told, _) = self.lent(Call::Stock, file, room, &stock_owed(truth))?;
+        let of_room = (room < LEAST_ROOM).then_some(1);
+        let failing: Vec<u8> = of_room.into_iter().chain(faults.iter().copied()).collect();
+        self.seen.stock_refusal(told, &failing);
         Ok(())
     }
 
@@ -328,15 +358,51 @@ impl<'a> Judge<'a> {
         self.lent(call, file, room, owed).map(|(_, answer)| answer)
     }
 
-    /// The same, and before the answer the refusal number that the engine told.
-    fn lent(&mut self, call: Call, file: &[u8], room: usize, owed: &Owed) -> Result<(u8, Vec<u8>), String> {
-        let (number, count) = if room < LEAST_ROOM { (1, Count::Refusals) } else { (owed.number, owed.count) };
+    /// One call with a buffer that holds something.
+    pub fn lend_over(&mut self, call: Call, file: &[u8], content: &[u8], owed: &Owed) -> Result<Vec<u8>, String> {
+        let mut lent = self.some_lent(content.len());
+        let Lent { start, room, .. } = lent;
+        lent.bytes[start..start + room].copy_from_slice(content);
+        self.judged(call, file, &mut lent, owed).map(|(_, answer)| answer)
+    }
+
+    /// Calls in a row on one tally and in one buffer, of which each gets a room at the front; each is judged whole.
+    pub fn one_after_another(&mut self, tally: Tally, calls: &[(Call, Vec<u8>, usize)]) -> Trial {
+        let rooms = calls.iter().map(|(_, _, room)| *room);
+        let mut lent = self.some_lent(rooms.max().unwrap_or(0));
+        lent.tally = tally;
+        calls.iter().try_for_each(|(call, file, room)| {
+            lent.room = *room;
+            match call {
+                Call::Graph => self.judged(*call, file, &mut lent, &graph_owed(&graph_truth(file))),
+                Call::Stock => self.judged(*call, file, &mut lent, &stock_owed(&stock_truth(file))),
+                Call::Budget(most) => self.judged(*call, file, &mut lent, &budget_owed(&stock_truth(file), *most)),
+            }
+            .map(drop)
+        })
+    }
+
+    /// A buffer of a size at any address, any bytes in it and around it, and any tally.
+    fn some_lent(&mut self, room: usize) -> Lent {
         let start = MARGIN + self.random.below(16);
-        let before: Vec<u8> = (0..start + room + MARGIN).map(|_| self.random.byte()).collect();
-        let tally_before = self.some_tally();
-        let mut after = before.clone();
-        let mut tally = tally_before;
-        let Searched { told, searches } = call.by(self.engine, file, &mut after[start..start + room], &mut tally);
+        let bytes: Vec<u8> = (0..start + room + MARGIN).map(|_| self.random.byte()).collect();
+        Lent { bytes, start, room, tally: self.some_tally() }
+    }
+
+    /// The same as lend, and before the answer the refusal number that the engine told.
+    fn lent(&mut self, call: Call, file: &[u8], room: usize, owed: &Owed) -> Result<(u8, Vec<u8>), String> {
+        let mut lent = self.some_lent(room);
+        self.judged(call, file, &mut lent, owed)
+    }
+
+    /// One call on what is lent to it, where its bytes and counts remain.
+    fn judged(&mut self, call: Call, file: &[u8], lent: &mut Lent, owed: &Owed) -> Result<(u8, Vec<u8>), String> {
+        let Lent { start, room, tally: tally_before, .. } = *lent;
+        let (number, count) = if room < LEAST_ROOM { (1, Count::Refusals) } else { (owed.number, owed.count) };
+        let before = lent.bytes.clone();
+        let after = &mut lent.bytes;
+        let tally = &mut lent.tally;
+        let Searched { told, searches } = call.by(self.engine, file, &mut after[start..start + room], tally);
         let came = match count {
             Count::Paths => Came::Path,
             Count::Barriers => Came::Barrier,
@@ -355,7 +421,7 @@ impl<'a> Judge<'a> {
         if before[..start] != after[..start] || before[start + told.size..] != after[start + told.size..] {
             return fault("a byte outside the answer changed".to_string());
         }
-        if tally != raised(tally_before, count) {
+        if *tally != raised(tally_before, count) {
             return fault(format!("tally {tally:?} after {tally_before:?}, and {count:?} is owed"));
         }
         if searches != searches_in(call, &answer) {

@@ -32,6 +32,7 @@
 //!   isolated_trials  cameras without a fit: known stocks, sheets compared, every set of them
 //!   look_up_trials   a pair looked up among fits: whether it is found, and how many are looked at
 //!   lit_pair_trials  lit pairs that are fits, and such as are none
+//!   printout_trials  what a stock gets: a plan, directly followed by its sheet
 //!   budget_trials    the call that stops after so many searches
 //!   self_arc_trials  graphs with an arc from a node to itself
 //!   prints           what the programs print
@@ -66,6 +67,7 @@ pub mod line_ends;
 pub mod lit_pair_trials;
 pub mod look_up_trials;
 pub mod options;
+pub mod printout_trials;
 pub mod prints;
 pub mod program_trials;
 pub mod programs;

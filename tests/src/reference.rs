@@ -141,8 +141,10 @@ pub fn plan(stock: &Stock) -> Vec<Pair> {
     blossom::pairs(&partner)
 }
 
+/// By alternating paths from the cameras that the plan leaves over.
 pub fn standing(stock: &Stock) -> Standing {
-    blossom::standing(stock.cameras, &stock.fits)
+    let plan = plan(stock);
+    Standing { greatest: plan.len(), marks: blossom::marks_from(stock.cameras, &stock.fits, &plan) }
 }
 
 /// The plan, directly followed by the sheet.

@@ -3,25 +3,28 @@
 //!   Isolated    where a stock has cameras without a fit, and beside what
 //!   Sought      where a pair stands that is looked up, and in which list of fits
 //!   LitPair     where the lit pairs of a stock stand among its fits, those that are fits and those that are none
+//!   Printout    what a stock gets, a plan and its sheet: of which stock, by which pairs, with which marks
 //!   Budget      where a budget ends the searches, what it leaves missing, and of which stock
 //!   SelfArc     where a graph's self arcs stand, at which nodes, and beside what
 //!   Reading     the calls that read graphs
 //!   Seen        files, calls, and calls by what they came to, those on files with CR LF also by themselves; stocks by isolated cameras and
-//!               by lit pairs; look-ups by what was sought; calls with a budget by what they came to and by what refused them; graphs by
-//!               self arcs, and calls on those by what refused them
+//!               by lit pairs; printouts by what they tell, by their sizes and by what refused them; look-ups by what was sought; calls
+//!               with a budget by what they came to and by what refused them; graphs by self arcs, and calls on those by what refused them
 //!   never_met   what of all that calls can come to was not met
 //!   too_rare    where isolated cameras stood in too few stocks
 //!   too_few_look_ups, too_few_lit_pairs, too_few_budgets    what was looked up too seldom; which lit pairs or budgets were met too seldom
 //!   never_refused    which questions never refused a budget, alone or with each later one
+//!   too_few_printouts, never_sized, never_refused_stocks    which printouts were met too seldom; which numbers of pairs and cameras never;
+//!               which questions never refused a stock, alone or with each later one
 //!   too_few_self_arcs    which self arcs were met too seldom
 //!   never_refused_self_arcs    where 16 never refused a call, alone or with 10, or no earlier question refused a graph with self arcs
 
 use crate::engine::Fit;
 use crate::fit_lists::{rises, MOST_FITS};
-use crate::frames::{Pair, Text, BUDGET};
+use crate::frames::{plan_in, Pair, Text, BUDGET, PLAN};
 use crate::graph_trial::{is_self_arc, mate, mate_of, Graph, CERTIFICATE_QUESTIONS, GRAPH_QUESTIONS, MOST_ARCS, SELF_ARC};
 use crate::line_ends::{ends_of, has_cr_lf, Ends};
-use crate::stock_trial::{any_twice, no_camera_twice, Stock, STOCK_QUESTIONS};
+use crate::stock_trial::{any_twice, includes, no_camera_twice, Standing, Stock, MOST_CAMERAS, MOST_PAIRS, STOCK_QUESTIONS};
 use crate::truth::{numbers_within, Numbers, MOST_SEARCHES, OVER_BUDGET};
 use std::collections::{BTreeMap, BTreeSet};
 use std::fmt;
@@ -326,19 +329,102 @@ fn budget_kinds(stock: &Stock, greatest: usize, most: u32, answer: &[u8]) -> Vec
         Budget::ZeroThoughLeftOver => found_none && left_over > 1,
         Budget::LitPairKept => gained && lit.iter().any(|pair| given.contains(pair)),
         Budget::LitPairSwapped => gained && lit.iter().any(|pair| !given.contains(pair)),
-        Budget::MostPairs => pairs == 63,
+        Budget::MostPairs => pairs == MOST_PAIRS,
         Budget::MostSearches => searches == MOST_SEARCHES as usize,
         Budget::MostGranted => most == MOST_SEARCHES,
     };
     ALL_BUDGETS.into_iter().filter(is).collect()
 }
 
+#[derive(Clone, Copy, Debug, PartialEq, Eq, PartialOrd, Ord)]
+pub enum Printout {
+    NoCameras,
+    NoFit,
+    /// every camera is in a pair of the plan
+    AllPaired,
+    // the plan, beside the lit pairs
+    NoneLit,
+    /// the lit pairs are largest
+    LargestLit,
+    OneGained,
+    SeveralGained,
+    PairKept,
+    PairSwapped,
+    // the sheet, beside the plan
+    /// a camera marked 00 that the plan pairs; one that it leaves over
+    PairedMarked00,
+    UnpairedMarked00,
+    /// all four marks
+    EveryMark,
+    // sizes
+    MostPairs,
+    MostBytes,
+    /// 63 pairs gained, and a last search that finds none
+    MostSearches,
+    // marks that would be others by alternating paths from the pairing before the first search, or before the one that found none
+    OtherBeforeFirst,
+    OtherBeforeLast,
+}
+
+const ALL_PRINTOUTS: [Printout; 17] = [
+    Printout::NoCameras,
+    Printout::NoFit,
+    Printout::AllPaired,
+    Printout::NoneLit,
+    Printout::LargestLit,
+    Printout::OneGained,
+    Printout::SeveralGained,
+    Printout::PairKept,
+    Printout::PairSwapped,
+    Printout::PairedMarked00,
+    Printout::UnpairedMarked00,
+    Printout::EveryMark,
+    Printout::MostPairs,
+    Printout::MostBytes,
+    Printout::MostSearches,
+    Printout::OtherBeforeFirst,
+    Printout::OtherBeforeLast,
+];
+
+/// Of a stock, its standing and a right answer; which marks would be others is not told here.
+fn printout_kinds(stock: &Stock, standing: &Standing, answer: &[u8]) -> Vec<Printout> {
+    let Stock { cameras, fits, lit } = stock;
+    let Standing { greatest, marks } = standing;
+    let plan = Text::of(plan_in(answer)).pairs(PLAN.bodies[0]);
+    let gain = greatest - lit.len();
+    let any_marked_00 = |paired: bool| (0..*cameras).any(|camera| marks[camera] == 0 && includes(&plan, camera) == paired);
+    let is = |kind: &Printout| match kind {
+        Printout::NoCameras => *cameras == 0,
+        Printout::NoFit => *cameras > 0 && fits.is_empty(),
+        Printout::AllPaired => *cameras > 0 && 2 * greatest == *cameras,
+        Printout::NoneLit => lit.is_empty() && gain > 0,
+        Printout::LargestLit => !lit.is_empty() && gain == 0,
+        Printout::OneGained => gain == 1,
+        Printout::SeveralGained => gain > 1,
+        Printout::PairKept => gain > 0 && lit.iter().any(|pair| plan.contains(pair)),
+        Printout::PairSwapped => lit.iter().any(|pair| !plan.contains(pair)),
+        Printout::PairedMarked00 => any_marked_00(true),
+        Printout::UnpairedMarked00 => any_marked_00(false),
+        Printout::EveryMark => (0..=3).all(|mark| marks.contains(&mark)),
+        Printout::MostPairs => *greatest == MOST_PAIRS,
+        Printout::MostBytes => *greatest == MOST_PAIRS && *cameras == MOST_CAMERAS,
+        Printout::MostSearches => gain == MOST_PAIRS,
+        Printout::OtherBeforeFirst | Printout::OtherBeforeLast => false,
+    };
+    ALL_PRINTOUTS.into_iter().filter(is).collect()
+}
+
+/// Every number of pairs with every number of cameras that has room for them.
+fn every_size() -> impl Iterator<Item = (usize, usize)> {
+    (0..=MOST_PAIRS).flat_map(|pairs| (2 * pairs..=MOST_CAMERAS).map(move |cameras| (pairs, cameras)))
+}
+
 /// In the order of documents 01 and 02.
 const BUDGET_QUESTIONS: [u8; 14] = [1, 15, 2, 3, 4, 5, 6, 7, 8, 9, 11, 12, 13, 14];
+const PRINTOUT_QUESTIONS: [u8; 13] = [1, 2, 3, 4, 5, 6, 7, 8, 9, 11, 12, 13, 14];
 
 /// The first question answered no, and a later one, 0 where it is alone.
-fn budget_refusals() -> Vec<(u8, u8)> {
-    let order = BUDGET_QUESTIONS;
+fn refusals_in(order: &[u8]) -> Vec<(u8, u8)> {
     let with_later = |place: usize| order[place + 1..].iter().copied().chain([0]).collect::<Vec<u8>>();
     (0..order.len())
         .flat_map(|place| with_later(place).into_iter().map(|later| (order[place], later)).collect::<Vec<_>>())
@@ -467,7 +553,8 @@ fn beside(told: u8, failing: &[u8]) -> Vec<u8> {
     failing.iter().copied().filter(|question| *question != told).collect()
 }
 
-/// What is sought, which pairs are lit, what a budget comes to and which self arcs there are is to be met that often.
+/// What is sought, which pairs are lit, what a printout tells, what a budget comes to and which self arcs there are is to be met that
+/// often.
 const FEW: usize = 5;
 
 type Counts = BTreeMap<Came, usize>;
@@ -485,6 +572,9 @@ pub struct Seen {
     pub look_ups: usize,
     sought: BTreeMap<Sought, usize>,
     lit_pairs: BTreeMap<LitPair, usize>,
+    printouts: BTreeMap<Printout, usize>,
+    sizes: BTreeSet<(usize, usize)>,
+    stock_refusals: BTreeMap<(u8, u8), usize>,
     budgets: BTreeMap<Budget, usize>,
     budget_refusals: BTreeMap<(u8, u8), usize>,
     self_arcs: BTreeMap<SelfArc, usize>,
@@ -521,6 +611,21 @@ impl Seen {
         lit_kinds(stock).into_iter().for_each(|kind| *self.lit_pairs.entry(kind).or_default() += 1);
     }
 
+    /// A stock, its standing, and the answer.
+    pub fn printout(&mut self, stock: &Stock, standing: &Standing, answer: &[u8]) {
+        printout_kinds(stock, standing, answer).into_iter().for_each(|kind| self.printout_kind(kind));
+        self.sizes.insert((standing.greatest, stock.cameras));
+    }
+
+    pub fn printout_kind(&mut self, kind: Printout) {
+        *self.printouts.entry(kind).or_default() += 1;
+    }
+
+    /// A call for a stock that fails these questions, and the number that the engine told.
+    pub fn stock_refusal(&mut self, told: u8, failing: &[u8]) {
+        beside(told, failing).into_iter().for_each(|other| *self.stock_refusals.entry((told, other)).or_default() += 1);
+    }
+
     /// A stock with a greatest number of pairs, a budget that is granted, and the answer.
     pub fn budget(&mut self, stock: &Stock, greatest: usize, most: u32, answer: &[u8]) {
         budget_kinds(stock, greatest, most, answer).into_iter().for_each(|kind| *self.budgets.entry(kind).or_default() += 1);
@@ -550,7 +655,20 @@ impl Seen {
     }
 
     pub fn never_refused(&self) -> Vec<(u8, u8)> {
-        budget_refusals().into_iter().filter(|refusal| !self.budget_refusals.contains_key(refusal)).collect()
+        refusals_in(&BUDGET_QUESTIONS).into_iter().filter(|refusal| !self.budget_refusals.contains_key(refusal)).collect()
+    }
+
+    pub fn too_few_printouts(&self) -> Vec<Printout> {
+        too_few(&ALL_PRINTOUTS, &self.printouts)
+    }
+
+    /// Pairs and cameras.
+    pub fn never_sized(&self) -> Vec<(usize, usize)> {
+        every_size().filter(|size| !self.sizes.contains(size)).collect()
+    }
+
+    pub fn never_refused_stocks(&self) -> Vec<(u8, u8)> {
+        refusals_in(&PRINTOUT_QUESTIONS).into_iter().filter(|refusal| !self.stock_refusals.contains_key(refusal)).collect()
     }
 
     pub fn too_few_self_arcs(&self) -> Vec<SelfArc> {
@@ -584,6 +702,9 @@ impl Seen {
         self.look_ups += other.look_ups;
         add_counts(&mut self.sought, &other.sought);
         add_counts(&mut self.lit_pairs, &other.lit_pairs);
+        add_counts(&mut self.printouts, &other.printouts);
+        self.sizes.extend(&other.sizes);
+        add_counts(&mut self.stock_refusals, &other.stock_refusals);
         add_counts(&mut self.budgets, &other.budgets);
         add_counts(&mut self.budget_refusals, &other.budget_refusals);
         add_counts(&mut self.self_arcs, &other.self_arcs);
@@ -622,6 +743,7 @@ impl fmt::Display for Seen {
         writeln!(out, "of them on files with CR LF: {}", told(&self.came_with_cr_lf))?;
         writeln!(out, "isolated cameras in {} stocks: {}", self.stocks, told(&self.isolated))?;
         writeln!(out, "lit pairs: {}", told(&self.lit_pairs))?;
+        writeln!(out, "printouts of {} sizes: {}", self.sizes.len(), told(&self.printouts))?;
         writeln!(out, "budgets: {}", told(&self.budgets))?;
         writeln!(out, "self arcs: {}", told(&self.self_arcs))?;
         write!(out, "{} look-ups: {}", self.look_ups, told(&self.sought))

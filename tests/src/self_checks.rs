@@ -2,6 +2,8 @@
 //!   lines_agree              lines cut at line feeds and bytes read one by one, on every short text
 //!   look_ups_agree           a look-up by the places of fits that are equal or larger, and by the number of smaller ones, where fits rise
 //!   pairings_agree           all pairings and the blossom algorithm, on small stocks
+//!   marks_by_paths_agree     marks by alternating paths from any largest pairing are those by all pairings, on small stocks
+//!   printouts_agree          what is taken for a right printout, and every plan and the sheet by all pairings, on small stocks
 //!   budgets_agree            document 02's formulas for a budget, and searches run one by one, on small stocks and middling ones; the
 //!                            bound of pairs and missing lanes
 //!   marks_agree              document 01's marks, but 03 for the cameras that no largest pairing has, which are those without a fit
@@ -15,16 +17,17 @@ use crate::blossom;
 use crate::engine::{Fit, Looked};
 use crate::exhaustive::texts;
 use crate::fit_lists::{every_place, long_list, number_of, parted, rises, short_list, sought_in};
-use crate::frames::{Pair, Text, CR, GRAPH, LF};
+use crate::frames::{halves, printout, Pair, Text, CR, GRAPH, LF};
 use crate::generate::{
     doubled_table, ear_fits, middling_graph, middling_stock, shuffled_graph, small_graph, small_stock, stock_of,
     stock_with_isolated,
 };
 use crate::graph_trial::{self, canonical, is_barrier, least_of_parts, mate, regular_end, Graph};
 use crate::judge::{shown, shown_fits, Judge, Trial};
+use crate::random::Random;
 use crate::reference::{self, Reached};
 use crate::stock_trial::{self, all_pairings, includes, is_plan, is_rising_pairing, Stock, ISOLATED};
-use crate::truth::{look_up_owed, numbers_within, Numbers, MOST_SEARCHES};
+use crate::truth::{look_up_owed, numbers_within, stock_owed, stock_truth, Numbers, MOST_SEARCHES};
 
 fn compare(judge: &mut Judge, agree: bool, what: &str, file: &[u8]) -> Trial {
     judge.seen.compared += 1;
@@ -81,6 +84,67 @@ pub fn pairings_agree(judge: &mut Judge, files: usize) -> Trial {
         let stock = if number % 3 == 0 { stock_with_isolated(random) } else { small_stock(random) };
         let agree = blossom::standing(stock.cameras, &stock.fits) == stock_trial::standing(stock.cameras, &stock.fits);
         compare(judge, agree, "all pairings and the blossom algorithm differ", &stock.file())
+    })
+}
+
+pub fn marks_by_paths_agree(judge: &mut Judge, files: usize) -> Trial {
+    (0..files).try_for_each(|number| {
+        let random = &mut judge.random;
+        let stock = if number % 3 == 0 { stock_with_isolated(random) } else { small_stock(random) };
+        let marks = stock_trial::standing(stock.cameras, &stock.fits).marks;
+        let agree = largest_pairings(&stock).iter().all(|pairs| blossom::marks_from(stock.cameras, &stock.fits, pairs) == marks);
+        compare(judge, agree, "all pairings and alternating paths from a largest one differ", &stock.file())
+    })
+}
+
+/// Every printout that is right: each largest pairing that keeps the lit cameras, or the lit pairs alone where they are one.
+fn right_printouts(stock: &Stock) -> Vec<Vec<u8>> {
+    let largest = largest_pairings(stock);
+    let marks = stock_trial::standing(stock.cameras, &stock.fits).marks;
+    let lit_cameras = |pairs: &[Pair]| stock.lit.iter().all(|(u, v)| includes(pairs, *u) && includes(pairs, *v));
+    let is_allowed = |pairs: &&Vec<Pair>| if largest.contains(&stock.lit) { **pairs == stock.lit } else { lit_cameras(pairs) };
+    largest.iter().filter(is_allowed).map(|pairs| printout(pairs, pairs.len(), &marks)).collect()
+}
+
+/// A printout with one byte changed, left out or put in, with a line left out, repeated or exchanged, and with its halves put together
+/// otherwise; and as it is.
+fn nearly_right(random: &mut Random, answer: &[u8]) -> Vec<Vec<u8>> {
+    let (place, byte) = (random.below(answer.len()), *random.choose(b"0123456789ABCDEF\n\r\0"));
+    let (before, after) = (&answer[..place], &answer[place + 1..]);
+    let lines: Vec<&[u8]> = answer.split_inclusive(|byte| *byte == LF).collect();
+    let (one, other) = (random.below(lines.len()), random.below(lines.len()));
+    let mut exchanged = lines.clone();
+    exchanged.swap(one, other);
+    let (plan, sheet) = halves(answer);
+    vec![
+        [before, &[byte], after].concat(),
+        [before, after].concat(),
+        [before, &[byte], &answer[place..]].concat(),
+        [&lines[..one], &lines[one + 1..]].concat().concat(),
+        [&lines[..one], &lines[one..=one], &lines[one..]].concat().concat(),
+        exchanged.concat(),
+        [sheet, plan].concat(),
+        plan.to_vec(),
+        sheet.to_vec(),
+        [plan, b"\n", sheet].concat(),
+        [plan, sheet, sheet].concat(),
+        answer.to_vec(),
+    ]
+}
+
+pub fn printouts_agree(judge: &mut Judge, files: usize) -> Trial {
+    (0..files).try_for_each(|number| {
+        let random = &mut judge.random;
+        let stock = if number % 3 == 0 { stock_with_isolated(random) } else { small_stock(random) };
+        let right = right_printouts(&stock);
+        let unlit = right_printouts(&Stock { lit: Vec::new(), ..stock.clone() });
+        let others: Vec<Vec<u8>> = right.iter().take(3).flat_map(|answer| nearly_right(random, answer)).collect();
+        let file = stock.file();
+        let truth = stock_truth(&file);
+        let owed = stock_owed(&truth);
+        let mut all = right.iter().chain(&unlit).chain(&others);
+        let agree = !right.is_empty() && all.all(|answer| (owed.is_right)(answer) == right.contains(answer));
+        compare(judge, agree, "a printout is taken that no pairing gives, or one is not taken", &file)
     })
 }
 

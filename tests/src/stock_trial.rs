@@ -1,5 +1,6 @@
 //! Stocks by trial (document 01, "Stocks", "Questions put to a call"; document 02, L2).
 //!   Stock                 number of cameras, fits, lit pairs; which cameras are isolated
+//!   MOST_CAMERAS, MOST_PAIRS    how many cameras there may be, and how many pairs of them
 //!   ask, read             one question put to a stock file; all in order
 //!   any_twice             two of some things are the same
 //!   each_pairing, all_pairings    every pairing of the fits, once
@@ -32,6 +33,9 @@ impl Stock {
 
 // ---- stock files
 
+pub const MOST_CAMERAS: usize = 127;
+pub const MOST_PAIRS: usize = 63;
+
 pub const STOCK_QUESTIONS: [u8; 12] = [2, 3, 4, 5, 6, 7, 8, 9, 11, 12, 13, 14];
 
 fn stock_in(text: &Text) -> Stock {
@@ -63,7 +67,7 @@ pub fn ask(text: &Text, question: u8) -> bool {
     let named = |(first, second): &Pair| *first < stock.cameras && *second < stock.cameras;
     let is_fit = |(first, second): &Pair| stock.fits.contains(&(*first, *second)) || stock.fits.contains(&(*second, *first));
     match question {
-        5 => stock.cameras <= 0x7F,
+        5 => stock.cameras <= MOST_CAMERAS,
         8 => stock.fits.len() <= 3_900,
         9 => stock.fits.iter().all(named) && stock.lit.iter().all(named),
         11 => rises(&stock.fits),

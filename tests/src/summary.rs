@@ -59,7 +59,8 @@ impl Summary<'_> {
     }
 
     /// Every kind of answer and every refusal was met, in files with CR LF too; isolated cameras, lit pairs, self arcs and look-ups in every
-    /// place; every outcome and every refusal of a budget; question 16 by both calls with all line ends.
+    /// place; every kind, size and refusal of a printout; every outcome and every refusal of a budget; question 16 by both calls with all
+    /// line ends.
     fn try_coverage(&mut self) {
         let kinds = ["every kind of answer and every refusal was met", "the same on files with CR LF"];
         for (name, missing) in kinds.into_iter().zip(self.seen.never_met()) {
@@ -73,6 +74,15 @@ impl Summary<'_> {
         self.tell(
             "pairs were looked up in every place and in every kind of list",
             none_missing(&self.seen.too_few_look_ups(), "too few"),
+        );
+        self.tell("printouts of every kind were met", none_missing(&self.seen.too_few_printouts(), "too few"));
+        self.tell(
+            "printouts of every number of pairs with every number of cameras were met",
+            none_missing(&self.seen.never_sized(), "never met (pairs, cameras)"),
+        );
+        self.tell(
+            "stocks were refused by every question, alone and with each later one",
+            none_missing(&self.seen.never_refused_stocks(), "never met (first, later)"),
         );
         self.tell("budgets ended the searches in every way", none_missing(&self.seen.too_few_budgets(), "too few"));
         self.tell(
