@@ -5,6 +5,7 @@
 //!   calling, granting      another call; the right one with another number of searches
 //!   after, telling, counted    the right call, and something done after it, or another number of searches told, or counted otherwise
 //!   asking, asked_after    question 15 asked otherwise, or put after one of the stock's
+//!   is_answer, is_refusal  what a refusal number, 0 for an answer, tells
 //!   raise                  a count raised that many times
 //! First those that count searches wrongly, then in missing lanes, in where the searches end, in pairs, in frames, in question 15, in the
 //! tally and in the buffer.
@@ -71,11 +72,11 @@ fn after(is_meant: fn(u8) -> bool, done: fn(&mut Searched, &mut [u8])) -> Parts 
     })
 }
 
-fn is_answer(number: u8) -> bool {
+pub fn is_answer(number: u8) -> bool {
     number == 0
 }
 
-fn is_refusal(number: u8) -> bool {
+pub fn is_refusal(number: u8) -> bool {
     number != 0
 }
 
