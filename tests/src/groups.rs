@@ -190,6 +190,7 @@ pub fn of_programs() -> Vec<ProgramGroup> {
         programs("programs: self arcs", true, program_trials::self_arcs),
         programs("programs: input in pieces", false, program_trials::pieces),
         programs("programs: long and empty input", false, program_trials::lengths),
+        programs("programs: printouts", false, program_trials::printouts),
         programs("programs: words that are no budget", true, program_trials::other_words),
         programs("programs: budgets", false, program_trials::budgets),
         programs("programs: line ends", true, program_trials::line_ends),

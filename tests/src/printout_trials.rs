@@ -1,6 +1,6 @@
 //! What is tried with what a stock gets, a plan directly followed by its sheet (document 02, L6): the printout.
 //!   known               stocks with every printout that is right written out whole, with all line ends
-//!   edges               the shortest, the longest and others at an edge, with their sizes and the frames around the cut written out
+//!   edges, edge_stocks  the shortest, the longest and others at an edge, with their sizes and the frames around the cut written out
 //!   rooms               rooms around 2,048 bytes, and around the sizes of printouts and of their halves
 //!   over_content        buffers that hold another printout, this one, or bytes that it could go on with
 //!   one_after_another   random calls of every kind on one tally and in one buffer, also with counts at their largest
@@ -127,9 +127,9 @@ pub fn known(judge: &mut Judge) -> Trial {
 // ---- edges
 
 /// A stock, its number of pairs, the frame before the cut, the one behind it and the last one, and the size.
-type Edge = (Stock, usize, &'static [u8], &'static [u8], &'static [u8], usize);
+pub type Edge = (Stock, usize, &'static [u8], &'static [u8], &'static [u8], usize);
 
-fn edge_stocks() -> [Edge; 8] {
+pub fn edge_stocks() -> [Edge; 8] {
     let apart: Vec<Pair> = (0..MOST_PAIRS).map(|pair| (2 * pair, 2 * pair + 1)).collect();
     let unlit = |in_row: usize| Stock { lit: Vec::new(), ..row(in_row, in_row).0 };
     [

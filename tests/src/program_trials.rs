@@ -1,5 +1,6 @@
 //! What is tried with the programs.
 //!   examples            document 01's known graphs and stocks, and its certificates
+//!   printouts           known stocks with every pairing lit, after which the same sheet is printed; the shortest printout and the longest
 //!   isolated_cameras    the known stocks with isolated cameras, and random ones, with all line ends
 //!   unopened_files      a file that can't be opened counts as empty
 //!   self_arcs           graphs with self arcs, and such as nearly have them, with all line ends
@@ -22,17 +23,23 @@ use crate::cases::{graph_of_arcs, one_of, FIT_BEHIND_LIT};
 use crate::damage::{BYTES, DIGITS};
 use crate::engine::Verdict;
 use crate::faults::{failing, graph_for_certificates, questions, Kind, KINDS};
-use crate::frames::{budget_file, file, halves, path_file, plan_bytes, sheet_file, stock_file, Pair, Text, CR, GREATEST_FILE};
+use crate::frames::{
+    budget_file, file, halves, path_file, plan_bytes, sheet_file, sheet_in, stock_file, Pair, Text, CR, GREATEST_FILE,
+};
 use crate::generate::{all_fits, middling_graph, middling_stock, nearly_largest_lit, some_fits, stock_of, stock_with_isolated};
 use crate::graph_trial::SELF_ARC;
 use crate::judge::{shown, Trial};
-use crate::known::{budgets as known_budgets, graph, graphs, isolated_stocks, stocks, KnownBudget, G4, G5, S5_BUDGETS};
+use crate::known::{
+    budgets as known_budgets, graph, graphs, isolated_examples, isolated_stocks, stocks, KnownBudget, G4, G5, S5_BUDGETS,
+};
 use crate::large::dense_graph;
 use crate::line_ends::{all_ways, cr_lf, replaced, to_length, CR_LF};
+use crate::printout_trials::edge_stocks;
 use crate::prints::{refusal_line, verdict_line};
 use crate::programs::{Given, Programs};
 use crate::random::Random;
 use crate::shapes::{of_every_size, rows_of_every_size, spoiled};
+use crate::stock_trial::{all_pairings, Stock};
 use crate::truth::OVER_BUDGET;
 
 /// A print that is plain beforehand.
@@ -55,6 +62,25 @@ pub fn examples(programs: &Programs, _: &mut Random) -> Trial {
     let (g4, g5) = (graph(2, &G4).file(), graph(2, &G5).file());
     owed(&programs.check(&g4, &path_file(&[0, 2, 1]))?, verdict_line(Verdict::No))?;
     owed(&programs.check(&g5, &path_file(&[0, 2, 5]))?, verdict_line(Verdict::Yes))
+}
+
+/// One half held to the other, and the sheet to those printed before.
+pub fn printouts(programs: &Programs, _: &mut Random) -> Trial {
+    for known in stocks().into_iter().chain(isolated_examples()) {
+        for lit in all_pairings(known.stock.cameras, &known.stock.fits) {
+            let file = Stock { lit, ..known.stock.clone() }.file();
+            let [printout, _] = programs.stock(&file)?;
+            known_to_be(sheet_in(&printout) == known.sheet, &printout, &file)?;
+        }
+    }
+    for (stock, _, before, behind, last, size) in edge_stocks() {
+        let file = stock.file();
+        let [printout, _] = programs.stock(&file)?;
+        let (plan, sheet) = halves(&printout);
+        let right = plan.ends_with(before) && sheet.starts_with(behind) && sheet.ends_with(last) && printout.len() == size;
+        known_to_be(right, &printout, &file)?;
+    }
+    Ok(())
 }
 
 pub fn isolated_cameras(programs: &Programs, random: &mut Random) -> Trial {

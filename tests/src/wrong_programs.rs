@@ -4,12 +4,13 @@
 //!   manner           that of a program, right or with a slip
 
 use crate::engine::Engine;
-use crate::frames::{path_file, plan_in, CR, GREATEST_FILE, LF};
+use crate::frames::{halves, path_file, plan_file, plan_in, sheet_in, CR, GREATEST_FILE, LF};
 use crate::graph_trial::{is_self_arc, read_in_order, Graph, SELF_ARC};
 use crate::judge::Call;
 use crate::line_ends::{cr_lf, replaced, CR_LF};
 use crate::prints::{refusal_line, BUDGET_PROGRAM, CHECK_PROGRAM, GRAPH_PROGRAM, STOCK_PROGRAM};
 use crate::stand_in::{answered, granted, number_in, read_all, Manner, CERTIFICATE_FILE, GRAPH_FILE, WRONG_STATUS};
+use crate::stock_trial::{self, Stock};
 use crate::wrong_line_ends::{any_return_ends, returns_refused};
 use std::io::{Read, Result as Done};
 
@@ -25,13 +26,14 @@ const ANSWERING: [&str; 3] = [GRAPH_PROGRAM, STOCK_PROGRAM, BUDGET_PROGRAM];
 type Slip = (&'static str, fn(Manner) -> Manner);
 
 pub fn all() -> Vec<WrongProgram> {
-    let lists: [(&[&'static str], &[Slip]); 14] = [
+    let lists: [(&[&'static str], &[Slip]); 15] = [
         (&EACH, &READING),
         (&EACH, &PRINTING),
         (&ANSWERING, &ANSWERS),
         (&[GRAPH_PROGRAM], &[("cuts answers at 1,024 bytes", cut::<1_024>), ("cuts answers at 1,800 bytes", cut::<1_800>)]),
         (&[STOCK_PROGRAM], &[("cuts answers at 1,024 bytes", cut::<1_024>), ("cuts answers at 1,353 bytes", cut::<1_353>)]),
         (&[STOCK_PROGRAM], &OF_MARKS),
+        (&[STOCK_PROGRAM], &OF_PRINTOUTS),
         (&[BUDGET_PROGRAM], &[("cuts answers at 456 bytes", cut::<456>)]),
         (&[BUDGET_PROGRAM], &OF_WORDS),
         (&[BUDGET_PROGRAM], &OF_NUMBERS),
@@ -199,6 +201,145 @@ fn without_isolated(text: Vec<u8>) -> Vec<u8> {
     text.split_inclusive(|byte| *byte == LF).filter(|line| !left_out(line)).flatten().copied().collect()
 }
 
+// ---- plan and sheet in one
+
+const OF_PRINTOUTS: [Slip; 36] = [
+    ("prints the plan alone", |right| Manner { print: |text| joined(text, |plan, _| plan.to_vec()), ..right }),
+    ("prints the sheet alone", |right| Manner { print: |text| joined(text, |_, sheet| sheet.to_vec()), ..right }),
+    ("prints the sheet first", |right| Manner { print: |text| joined(text, |plan, sheet| [sheet, plan].concat()), ..right }),
+    ("prints the plan twice", |right| Manner { print: |text| joined(text, |plan, _| [plan, plan].concat()), ..right }),
+    ("prints the sheet twice", |right| Manner { print: |text| joined(text, |_, sheet| [sheet, sheet].concat()), ..right }),
+    ("prints plan and sheet twice", |right| Manner { print: |text| joined(text, twice), ..right }),
+    ("prints the sheet again", |right| Manner {
+        print: |text| joined(text, |plan, sheet| [plan, sheet, sheet].concat()),
+        ..right
+    }),
+    ("prints an empty line between", |right| Manner {
+        print: |text| joined(text, |plan, sheet| around(plan, b"\n", sheet)),
+        ..right
+    }),
+    ("prints an empty line first", |right| Manner {
+        print: |text| joined(text, |plan, sheet| around(b"\n", plan, sheet)),
+        ..right
+    }),
+    ("prints CR LF between", |right| Manner { print: |text| joined(text, |plan, sheet| around(plan, b"\r\n", sheet)), ..right }),
+    ("prints a zero byte between", |right| Manner {
+        print: |text| joined(text, |plan, sheet| around(plan, b"\0", sheet)),
+        ..right
+    }),
+    ("prints a line of words between", |right| Manner {
+        print: |text| joined(text, |plan, sheet| around(plan, b"sheet:\n", sheet)),
+        ..right
+    }),
+    ("prints 7E00 between", |right| Manner { print: |text| joined(text, |plan, sheet| around(plan, b"7E00\n", sheet)), ..right }),
+    ("prints 7E00 behind", |right| Manner { print: |text| joined(text, |plan, sheet| around(plan, sheet, b"7E00\n")), ..right }),
+    ("prints 7E04 in place of the sheet", |right| Manner {
+        print: |text| joined(text, |plan, _| [plan, b"7E04\n"].concat()),
+        ..right
+    }),
+    ("prints no line feed between", |right| Manner {
+        print: |text| joined(text, |plan, sheet| [&plan[..plan.len() - 1], sheet].concat()),
+        ..right
+    }),
+    ("prints no plan without pairs", |right| Manner {
+        print: |text| joined(text, |plan, sheet| [if plan.len() > 12 { plan } else { b"" }, sheet].concat()),
+        ..right
+    }),
+    ("prints no sheet without cameras", |right| Manner {
+        print: |text| joined(text, |plan, sheet| [plan, if sheet.len() > 12 { sheet } else { b"" }].concat()),
+        ..right
+    }),
+    ("prints no header of the plan", |right| Manner { print: |text| without_kind(text, b"51"), ..right }),
+    ("prints no end frame of the plan", |right| Manner { print: |text| without_kind(text, b"5F"), ..right }),
+    ("prints no header of the sheet", |right| Manner { print: |text| without_kind(text, b"41"), ..right }),
+    ("prints no end frame of the sheet", |right| Manner { print: |text| without_kind(text, b"4F"), ..right }),
+    ("prints 61 for 51", |right| Manner { print: |text| replaced_kind(text, b"51", b"61"), ..right }),
+    ("prints its lines in order", |right| Manner { print: in_order, ..right }),
+    ("prints a refusal twice", |right| Manner {
+        refusal: |number| [refusal_line(number), refusal_line(number)].concat(),
+        ..right
+    }),
+    ("prints a refusal behind an empty plan", |right| Manner {
+        refusal: |number| [&b"5100\n5F0000\n"[..], &refusal_line(number)].concat(),
+        ..right
+    }),
+    ("prints a refusal for each half, the second with 40 added", |right| Manner {
+        refusal: |number| [refusal_line(number), refusal_line(number + 40)].concat(),
+        ..right
+    }),
+    ("prints only answers under 1,024 bytes", |right| Manner {
+        print: |text| if text.len() < 1_024 { text } else { Vec::new() },
+        ..right
+    }),
+    ("prints only plans under 453 bytes", |right| Manner {
+        print: |text| joined(text, |plan, sheet| [if plan.len() < 453 { plan } else { b"" }, sheet].concat()),
+        ..right
+    }),
+    ("cuts plans at 446 bytes", |right| Manner {
+        print: |text| joined(text, |plan, sheet| [&plan[..plan.len().min(446)], sheet].concat()),
+        ..right
+    }),
+    ("cuts sheets at 896 bytes", |right| Manner {
+        print: |text| joined(text, |plan, sheet| [plan, &sheet[..sheet.len().min(896)]].concat()),
+        ..right
+    }),
+    ("cuts answers at 901 bytes", cut::<901>),
+    ("prints what 64 searches come to, and the sheet", |right| Manner { answered: budget_and_sheet, ..right }),
+    ("prints the answer to the stock without its lit pairs", |right| Manner {
+        read: |_, input| changed(input, without_lit_pairs),
+        ..right
+    }),
+    ("prints the sheet alone where 12, 13 or 14 refuses", |right| Manner { answered: sheet_for_refusal, ..right }),
+    ("prints the lit pairs for the plan", |right| Manner { answered: lit_pairs_and_sheet, ..right }),
+];
+
+/// Plan and sheet put together otherwise; a refusal as it is.
+fn joined(text: Vec<u8>, join: fn(&[u8], &[u8]) -> Vec<u8>) -> Vec<u8> {
+    match halves(&text) {
+        (_, b"") => text,
+        (plan, sheet) => join(plan, sheet),
+    }
+}
+
+fn twice(plan: &[u8], sheet: &[u8]) -> Vec<u8> {
+    [plan, sheet, plan, sheet].concat()
+}
+
+fn around(first: &[u8], second: &[u8], third: &[u8]) -> Vec<u8> {
+    [first, second, third].concat()
+}
+
+fn in_order(text: Vec<u8>) -> Vec<u8> {
+    let mut lines: Vec<&[u8]> = text.split_inclusive(|byte| *byte == LF).collect();
+    lines.sort_unstable();
+    lines.concat()
+}
+
+fn budget_and_sheet(engine: &dyn Engine, call: Call, file: &[u8]) -> Result<Vec<u8>, u8> {
+    let sheet = sheet_in(&answered(engine, call, file)?).to_vec();
+    Ok([answered(engine, Call::Budget(64), file)?, sheet].concat())
+}
+
+/// A stock file that passes the questions up to 11, without the lines of lit pairs; another file as it is.
+fn without_lit_pairs(bytes: Vec<u8>) -> Vec<u8> {
+    match stock_trial::read_in_order(&bytes, &[2, 3, 4, 5, 6, 7, 8, 9, 11]) {
+        Ok(stock) => Stock { lit: Vec::new(), ..stock }.file(),
+        Err(_) => bytes,
+    }
+}
+
+fn sheet_for_refusal(engine: &dyn Engine, call: Call, file: &[u8]) -> Result<Vec<u8>, u8> {
+    answered(engine, call, file).or_else(|number| match number {
+        12.. => answered(engine, call, &without_lit_pairs(file.to_vec())).map(|printout| sheet_in(&printout).to_vec()),
+        _ => Err(number),
+    })
+}
+
+fn lit_pairs_and_sheet(engine: &dyn Engine, call: Call, file: &[u8]) -> Result<Vec<u8>, u8> {
+    let sheet = sheet_in(&answered(engine, call, file)?).to_vec();
+    Ok([plan_file(&stock_trial::read(file)?.lit), sheet].concat())
+}
+
 // ---- words for a number of searches
 
 /// One word, changed before it is taken as a number.
@@ -338,7 +479,7 @@ const OF_BUDGETS: [Slip; 7] = [
     ("prints the plan where all is granted", |right| Manner { answered: plan_for_all, ..right }),
     ("prints 51 for 61", |right| Manner { print: |text| replaced_kind(text, b"61", b"51"), ..right }),
     ("prints 5F for 6F", |right| Manner { print: |text| replaced_kind(text, b"6F", b"5F"), ..right }),
-    ("prints no header", |right| Manner { print: without_header, ..right }),
+    ("prints no header", |right| Manner { print: |text| without_kind(text, b"61"), ..right }),
 ];
 
 fn fifteen_last(engine: &dyn Engine, call: Call, file: &[u8]) -> Result<Vec<u8>, u8> {
@@ -371,8 +512,8 @@ fn replaced_kind(text: Vec<u8>, kind: &[u8], other: &[u8]) -> Vec<u8> {
     text.split_inclusive(|byte| *byte == LF).flat_map(line).collect()
 }
 
-fn without_header(text: Vec<u8>) -> Vec<u8> {
-    text.split_inclusive(|byte| *byte == LF).filter(|line| !line.starts_with(b"61")).flatten().copied().collect()
+fn without_kind(text: Vec<u8>, kind: &[u8]) -> Vec<u8> {
+    text.split_inclusive(|byte| *byte == LF).filter(|line| !line.starts_with(kind)).flatten().copied().collect()
 }
 
 // ---- self arcs
