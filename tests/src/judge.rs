@@ -69,7 +69,7 @@ pub struct Judge<'a> {
 pub const LEAST_ROOM: usize = 2_048;
 
 /// A buffer with bytes before and after it, and a tally.
-pub struct Lent {
+struct Lent {
     bytes: Vec<u8>,
     start: usize,
     room: usize,

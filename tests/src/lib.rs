@@ -14,7 +14,8 @@
 //!   wrong_isolated   engines that mark cameras without a fit wrongly
 //!   wrong_budgets    engines that stop wrongly after so many searches
 //!   wrong_look_ups   engines that look up a pair wrongly, or ask wrongly whether lit pairs are fits
-//!   wrong_printouts  engines that put a plan and its sheet together wrongly, or give another plan or sheet in it
+//!   wrong_printouts  engines that put a plan and its sheet together wrongly
+//!   wrong_halves     engines that give another plan or another sheet in it
 //!   wrong_self_arcs  engines that ask wrongly for arcs from a node to itself
 //!   judge            a call judged whole: result, buffer, tally
 //!   seen             what was tried, counted
@@ -87,6 +88,7 @@ pub mod trials;
 pub mod truth;
 pub mod wrong;
 pub mod wrong_budgets;
+pub mod wrong_halves;
 pub mod wrong_isolated;
 pub mod wrong_line_ends;
 pub mod wrong_look_ups;

@@ -6,6 +6,7 @@
 //!   after, telling, counted    the right call, and something done after it, or another number of searches told, or counted otherwise
 //!   asking, asked_after    question 15 asked otherwise, or put after one of the stock's
 //!   is_answer, is_refusal  what a refusal number, 0 for an answer, tells
+//!   greatest, unlit        the greatest number of pairs; a stock without its lit pairs
 //!   raise                  a count raised that many times
 //! First those that count searches wrongly, then in missing lanes, in where the searches end, in pairs, in frames, in question 15, in the
 //! tally and in the buffer.
@@ -84,7 +85,7 @@ fn is_over(number: u8) -> bool {
     number == OVER_BUDGET
 }
 
-fn greatest(stock: &Stock) -> usize {
+pub fn greatest(stock: &Stock) -> usize {
     reference::plan(stock).len()
 }
 
@@ -385,7 +386,7 @@ fn all_at_once(stock: &Stock, most: u32) -> Reached {
     })
 }
 
-fn unlit(stock: &Stock) -> Stock {
+pub fn unlit(stock: &Stock) -> Stock {
     Stock { lit: Vec::new(), ..stock.clone() }
 }
 
