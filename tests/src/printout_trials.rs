@@ -30,7 +30,7 @@ use crate::random::Random;
 use crate::reference::search;
 use crate::seen::Printout;
 use crate::shapes::{row, triangles_in_a_row};
-use crate::stock_trial::{all_pairings, is_plan, Standing, Stock, ISOLATED, MOST_CAMERAS, MOST_PAIRS, STOCK_QUESTIONS};
+use crate::stock_trial::{all_pairings, includes, is_plan, Standing, Stock, ISOLATED, MOST_CAMERAS, MOST_PAIRS, STOCK_QUESTIONS};
 use crate::truth::{stock_owed, stock_truth, StockTruth, MOST_SEARCHES};
 
 // ---- known printouts
@@ -213,7 +213,7 @@ fn some_call(random: &mut Random) -> (Call, Vec<u8>, usize) {
     };
     let file = match (call, random.below(6)) {
         (_, 0) => b"1100\n".to_vec(),
-        (Call::Graph, place) => graph(2, &G5[..2 * (place / 2)]).file(),
+        (Call::Graph, arcs) => graph(2, &G5[..2 * arcs.div_ceil(2)]).file(),
         (_, 1) => stock_with_isolated(random).file(),
         (_, 2) => stock(3, &[(0, 1)], &[(1, 2)]).file(),
         _ => small_stock(random).file(),
@@ -301,8 +301,7 @@ impl Given {
     /// The cameras that the plan leaves over have mark 00, or 03 where they have no fit; 03 is for no others.
     fn marks_left_over(&self, stock: &Stock) -> bool {
         let (pairs, marks, isolated) = (self.pairs(), self.marks(), stock.isolated());
-        let is_paired = |camera: &usize| pairs.iter().any(|pair| pair.0 == *camera || pair.1 == *camera);
-        let left_over: Vec<usize> = (0..stock.cameras).filter(|camera| !is_paired(camera)).collect();
+        let left_over: Vec<usize> = (0..stock.cameras).filter(|camera| !includes(&pairs, *camera)).collect();
         left_over.len() + 2 * pairs.len() == stock.cameras
             && left_over.iter().all(|camera| [0, ISOLATED].contains(&marks[*camera]))
             && (0..stock.cameras).all(|camera| (marks[camera] == ISOLATED) == isolated.contains(&camera))
