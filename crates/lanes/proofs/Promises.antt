@@ -1,9 +1,13 @@
 -- The promises, kept for every file.
+--   refusals-leave                                 demand 1
 --   reaches-by-paths, path-or-barrier              demand 2
 --   greatest-is, marks-are                         demand 3
 --   one-mark, marks-kept                           and what it says of the marks
-use mathlib.Core.Path.{refl, sym}
+use mathlib.Core.Path.{_≡_, refl, sym, ap, _∙_}
+use mathlib.Core.Bool.{false}
+use Prim.Native.Nat.{ℕ}
 use native.Mathlib.Omega.{arith}
+use lib.Dec.{eqb}
 use borrow.Author.Tests.{eq-eqb, eqb-true}
 use Rattle.counting.proofs.Booleans.{and-both, and-two}
 use Rattle.skew.specs.Graph.{mate, isRegular}
@@ -14,9 +18,27 @@ use Rattle.matching.proofs.Promises as matching
 use Rattle.matching.proofs.Promises.{well-formed-fits}
 use Rattle.files.specs.GraphFile.{graphIn}
 use Rattle.files.specs.StockFile.{stockIn}
-use Rattle.lanes.specs.Promise.{ReachesByPaths, PathOrBarrier, GreatestIs, MarksAre, OneMark, MarksKept}
+use Rattle.lanes.specs.Promise.{RefusalsLeave, ReachesByPaths, PathOrBarrier, GreatestIs, MarksAre, OneMark, MarksKept}
+use Rattle.lanes.specs.Entry.{told}
+use Rattle.lanes.specs.declared.Told.{Told}
+use Rattle.lanes.specs.declared.Searched.{Searched}
 use Rattle.files.proofs.AcceptedFiles.{accepted-graph, accepted-stock}
 
+-- DEMAND 1
+refused : {n : ℕ} {r : Told} → eqb n 0 ≡ false → r ≡ told n 0 → (r .number ≡ n) × (r .size ≡ 0)
+refused {n} z e = (ap (λ (x : Told). x .number) e, ap (λ (x : Told). x .size) e ∙ rw z)
+
+pub refusals-leave : RefusalsLeave
+refusals-leave = (
+  λ f o v r z h. let q = h .0 z in let e = refused z (q .0) in (e .0, e .1, q .1),
+  λ f o v r z h. let q = h .0 z in let e = refused z (q .0) in (e .0, e .1, q .1),
+  λ b f o v r z h.
+      let q = h .0 z in
+      let e = refused z (ap (λ (x : Searched). x .told) (q .0)) in
+      (e .0, e .1, ap (λ (x : Searched). x .searches) (q .0) ∙ rw z, q .1),
+)
+
+-- DEMANDS 2 AND 3
 pub reaches-by-paths : ReachesByPaths
 reaches-by-paths f w e = skew.reaches-by-paths (graphIn f) (accepted-graph f e) w
 

@@ -1,6 +1,6 @@
 -- The stock call's promises, kept for every file.
 --   sheet-begins, halves-fill, plans-tell, halves-agree     the two halves of its answer
---   some-answer                                    something is owed of everything
+--   stock-counts, some-answer                      what the tally counts; something is owed of everything
 --   sheets-tell, sheets-by-fits                    demand 3, of the sheet half; and what it says of lit pairs
 --   sheet-number-is, sheet-marks-are               and of the number and the marks in a sheet's bytes
 --   same-isolated                                  and of cameras without a fit
@@ -12,7 +12,7 @@ use native.Mathlib.Omega.{arith}
 use lib.Dec.{eqb}
 use lib.ListN.{length, take, drop, length-append}
 use lib.Seq.{take-append-seam, drop-append-seam}
-use borrow.Author.Tests.{eqb-true, eqb-false}
+use borrow.Author.Tests.{eqb-true, eqb-false, lt-ltb, le-ltb}
 use Rattle.formats.specs.Kinds.{pairKind}
 use Rattle.formats.specs.Limits.{room}
 use Rattle.counting.specs.Lists.{In}
@@ -29,9 +29,9 @@ use Rattle.matching.proofs.Promises.{well-formed-fits}
 use Rattle.pairing.proofs.Listed.{plan-pairing, plan-greatest}
 use Rattle.files.specs.StockFile.{stockIn, stockFault, sheetText, planText, planAndSheet}
 use Rattle.files.specs.Answers.{over}
-use Rattle.lanes.specs.Entry.{roomFault, told, stockCallFault, sheetOfFile}
+use Rattle.lanes.specs.Entry.{roomFault, told, largest, raised, stockCallFault, sheetOfFile}
 use Rattle.lanes.specs.declared.Told.{Told}
-use Rattle.lanes.specs.StockPromise.{AnsweredWith, sheetPlace, planHalf, sheetHalf, SheetBegins, HalvesFill, pairsRead, PlansTell, HalvesAgree, SomeAnswer, SheetsTell, SheetsByFits, SheetNumber, SheetMarks, SameIsolated, cameraLine}
+use Rattle.lanes.specs.StockPromise.{AnsweredWith, sheetPlace, planHalf, sheetHalf, SheetBegins, HalvesFill, pairsRead, PlansTell, HalvesAgree, CountsOne, StockCounts, SomeAnswer, SheetsTell, SheetsByFits, SheetNumber, SheetMarks, SameIsolated, cameraLine}
 use Rattle.files.proofs.AcceptedFiles.{accepted-stock, stock-few}
 use Rattle.files.proofs.AnswerLines.{plan-size}
 use Rattle.files.proofs.PlanBytes.{plan-header, plan-body, pair-lines-count, pairs-read}
@@ -62,7 +62,7 @@ module _ (f : List ℕ) (none : stockFault f ≡ 0) where
       (omega arith, omega arith)
 
 pub sheet-begins : SheetBegins
-sheet-begins f ps e h = plan-size ps ∙ ap (λ (k : ℕ). 12 + 7 * k) (plan-greatest (stockIn f) ps h)
+sheet-begins s ps h = plan-size ps ∙ ap (λ (k : ℕ). 12 + 7 * k) (plan-greatest s ps h)
 
 -- two texts at the front of a buffer, cut off at the first one's end and at their size
 two-parts : (a b o v : List ℕ) (k size : ℕ) → v ≡ over (a ++ b) o → k ≡ length a → size ≡ length (a ++ b) → (take k v ≡ a) × (drop k (take size v) ≡ b)
@@ -93,7 +93,7 @@ module _ (f o v : List ℕ) (r : Told) (A : AnsweredWith f o r v) where
   leaves = A .1 .1 (A .0) .1 .1 .1
 
   begins : sheetPlace (stockIn f .fits) ≡ length (planText ps)
-  begins = sym (sheet-begins f ps none plan)
+  begins = sym (sheet-begins (stockIn f) ps plan)
 
   size-is : r .size ≡ length (planText ps ++ sheet)
   size-is = ap (λ (x : Told). x .size) tells
@@ -115,10 +115,12 @@ module _ (f o v : List ℕ) (r : Told) (A : AnsweredWith f o r v) where
       let few = greatest-few f none in
       ap (hexAt 2 2) sheet-half ∙ sheet-number (stockIn f .cameras) (stockIn f .fits) (omega arith)
 
-  fill : (r .size ≡ sheetPlace (stockIn f .fits) + (12 + 7 * stockIn f .cameras)) × (r .size ≤ room) × (v ≡ over (planHalf f v ++ sheetHalf f r v) o)
+  fill : (r .size ≡ sheetPlace (stockIn f .fits) + (12 + 7 * stockIn f .cameras)) × (r .size ≤ 1354) × (1354 ≤ room) ×
+      (v ≡ over (planHalf f v ++ sheetHalf f r v) o)
   fill = (
     size-fixed,
     omega (arith, size-fixed, greatest-few f none, stock-few f none),
+    omega arith,
     leaves ∙ ap (λ (t : List ℕ). over (t ++ sheet) o) (sym plan-half) ∙ ap (λ (t : List ℕ). over (planHalf f v ++ t) o) (sym sheet-half),
   )
 
@@ -146,6 +148,17 @@ plans-tell f o v r A =
 
 pub halves-agree : HalvesAgree
 halves-agree = agree
+
+counts-one : (n : ℕ) → CountsOne n (raised true n)
+counts-one n = (λ h. rw (lt-ltb n largest h), λ h. rw (le-ltb n largest (omega arith)))
+
+pub stock-counts : StockCounts
+stock-counts f o t = (
+  refl,
+  refl,
+  λ e. rw e (counts-one (t .stocks), refl),
+  λ z. rw z (refl, counts-one (t .refusals)),
+)
 
 pub some-answer : SomeAnswer
 some-answer f o =

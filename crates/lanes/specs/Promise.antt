@@ -4,6 +4,7 @@
 -- elements are bytes; PathOrBarrier also says what hasPath tells, and MarksAre what mark 2 does, and mark 3, which document 02's L2 brings. The
 -- others are added. Those of demand 2 ask of a graph file what document 03's questions do (basicGraphFault), so they hold of every accepted one, and of
 -- those too that question 16 alone refuses (files/specs/SelfArcs, AcceptedIs and SixteenIs).
+--   RefusalsLeave     demand 1: a refused call tells the first question answered no and no size, and leaves the buffer as it was
 --   ReachesByPaths    demand 2: a node is reachable exactly if a regular path from the source ends there
 --   PathOrBarrier     demand 2: a path and a barrier exclude each other, and without a path the canonical one is a barrier; hasPath tells which
 --   GreatestIs        demand 3: the greatest number of pairs, by all pairings of the file's fits; and there is a plan
@@ -16,6 +17,7 @@ use mathlib.Core.Logic.{_↔_}
 use mathlib.Core.Bool.{true, false}
 use mathlib.Core.List.{List, [], _∷_}
 use Prim.Native.Nat.{ℕ, _≤_, _<_}
+use lib.Dec.{eqb}
 use lib.ListN.{length}
 use Rattle.counting.specs.Pairs.{Pair, pair}
 use Rattle.skew.specs.Graph.{Graph, isRegular, isWanted, isReachable, hasPath, isBarrier, canonical}
@@ -24,6 +26,19 @@ use Rattle.matching.specs.Promise.{HasFit, MarkMeans}
 use Rattle.matching.specs.Stock.{isPairing, greatest, pairingMark, markOf, marksOf, isPlan}
 use Rattle.files.specs.GraphFile.{graphIn, basicGraphFault}
 use Rattle.files.specs.StockFile.{stockIn, stockFault}
+use Rattle.lanes.specs.Entry.{answerFault, GraphOwes, stockCallFault, StockOwes, budgetFault, BudgetOwes}
+use Rattle.lanes.specs.declared.Told.{Told}
+use Rattle.lanes.specs.declared.Searched.{Searched}
+
+-- DEMAND 1
+abbrev pub RefusalsLeave : Type 0
+RefusalsLeave =
+    ((f o v : List ℕ) (r : Told) → eqb (answerFault f o) 0 ≡ false → GraphOwes f o r v →
+    (r .number ≡ answerFault f o) × (r .size ≡ 0) × (v ≡ o)) ×
+    ((f o v : List ℕ) (r : Told) → eqb (stockCallFault f o) 0 ≡ false → StockOwes f o r v →
+    (r .number ≡ stockCallFault f o) × (r .size ≡ 0) × (v ≡ o)) ×
+    ((b : ℕ) (f o v : List ℕ) (r : Searched) → eqb (budgetFault b f o) 0 ≡ false → BudgetOwes b f o r v →
+    (r .told .number ≡ budgetFault b f o) × (r .told .size ≡ 0) × (r .searches ≡ 0) × (v ≡ o))
 
 -- DEMAND 2
 abbrev pub ReachesByPaths : Type 0

@@ -4,10 +4,12 @@
 --   sheetPlace fs            where the sheet half begins, by the fits alone
 --   planHalf f v, sheetHalf f r v, pairsRead t     the two halves of an answer; the pairs that a plan's lines say
 --   cameraLine u             where camera u's line begins in a sheet
---   SheetBegins       that place is the length of every plan, whichever pairs are lit
---   HalvesFill        the answer is the two halves and no more; its size, by cameras and fits alone, is within the room
+--   SheetBegins       that place is the length of every plan of a stock, whichever pairs are lit
+--   HalvesFill        the answer is the two halves and no more; its size, by cameras and fits alone, is at most 1,354 bytes, within the room
 --   PlansTell         demand 2: the pairs that the plan half's lines say are a plan, and the half is that plan as it is written
 --   HalvesAgree       demand 3: the plan half's number, and how many lines it has, is the sheet half's, and tells where that begins
+--   CountsOne n m     a count n, counted up, is m; one at 4,294,967,295 remains
+--   StockCounts       the call counts one stock answer, or one refusal, and nothing else
 --   SomeAnswer        the call can answer: something is owed of every file and buffer
 --   SheetsTell        demand 3: sheets are alike exactly when cameras, greatest number and every mark are; each is the sheet defined
 --   SheetsByFits      demand 3: the same cameras and fits get the same sheet at the same place, whichever pairs are lit and whatever stood in the buffers
@@ -16,19 +18,21 @@
 --   SameIsolated      two sheets of the same bytes are of stocks in which the same cameras have no fit
 use mathlib.Core.Path.{_≡_}
 use mathlib.Core.Logic.{_↔_}
-use mathlib.Core.Bool.{true}
+use mathlib.Core.Bool.{true, false}
 use mathlib.Core.List.{List, _++_}
-use Prim.Native.Nat.{ℕ, _+_, _*_, _≤_, _<_}
+use Prim.Native.Nat.{ℕ, suc, _+_, _*_, _≤_, _<_}
+use lib.Dec.{eqb}
 use lib.ListN.{length, take, drop}
 use Rattle.formats.specs.Kinds.{pairKind}
 use Rattle.formats.specs.Limits.{room}
 use Rattle.counting.specs.Pairs.{Pair}
 use Rattle.frames.specs.Frames.{hexAt, bodyLines, pairsIn}
 use Rattle.matching.specs.Promise.{HasFit}
-use Rattle.matching.specs.Stock.{isPairing, greatest, markOf, isPlan}
-use Rattle.files.specs.StockFile.{stockIn, stockFault, alike, planText}
+use Rattle.matching.specs.Stock.{Stock, isPairing, greatest, markOf, isPlan}
+use Rattle.files.specs.StockFile.{stockIn, alike, planText}
 use Rattle.files.specs.Answers.{over}
-use Rattle.lanes.specs.Entry.{sheetOfFile, stockCallFault, StockOwes}
+use Rattle.lanes.specs.Entry.{sheetOfFile, stockCallFault, StockOwes, stockTally}
+use Rattle.lanes.specs.declared.Tally.{Tally}
 use Rattle.lanes.specs.declared.Told.{Told}
 
 abbrev pub AnsweredWith : (file buffer : List ℕ) → (answer : Told) → (after : List ℕ) → Type 0
@@ -46,13 +50,13 @@ sheetHalf f r v = drop (sheetPlace (stockIn f .fits)) (take (r .size) v)
 
 -- THE HALVES
 abbrev pub SheetBegins : Type 0
-SheetBegins =
-    (f : List ℕ) (ps : List Pair) → stockFault f ≡ 0 → isPlan (stockIn f) ps ≡ true → length (planText ps) ≡ sheetPlace (stockIn f .fits)
+SheetBegins = (s : Stock) (ps : List Pair) → isPlan s ps ≡ true → length (planText ps) ≡ sheetPlace (s .fits)
 
 abbrev pub HalvesFill : Type 0
 HalvesFill =
     (f o v : List ℕ) (r : Told) → AnsweredWith f o r v →
-    (r .size ≡ sheetPlace (stockIn f .fits) + (12 + 7 * stockIn f .cameras)) × (r .size ≤ room) × (v ≡ over (planHalf f v ++ sheetHalf f r v) o)
+    (r .size ≡ sheetPlace (stockIn f .fits) + (12 + 7 * stockIn f .cameras)) × (r .size ≤ 1354) × (1354 ≤ room) ×
+    (v ≡ over (planHalf f v ++ sheetHalf f r v) o)
 
 -- the pairs that a plan's lines say
 abbrev pub pairsRead : (plan : List ℕ) → List Pair
@@ -68,6 +72,17 @@ HalvesAgree =
     (f o v : List ℕ) (r : Told) → AnsweredWith f o r v →
     (hexAt 2 2 v ≡ hexAt 2 2 (sheetHalf f r v)) × (length (bodyLines (planHalf f v)) ≡ hexAt 2 2 (sheetHalf f r v)) ×
     (sheetPlace (stockIn f .fits) ≡ 12 + 7 * hexAt 2 2 v)
+
+-- THE TALLY: one more, below a count's largest value
+abbrev pub CountsOne : (before after : ℕ) → Type 0
+CountsOne n m = (n < 4294967295 → m ≡ suc n) × (n ≡ 4294967295 → m ≡ n)
+
+abbrev pub StockCounts : Type 0
+StockCounts =
+    (f o : List ℕ) (t : Tally) →
+    (stockTally f o t .paths ≡ t .paths) × (stockTally f o t .barriers ≡ t .barriers) ×
+    (stockCallFault f o ≡ 0 → CountsOne (t .stocks) (stockTally f o t .stocks) × (stockTally f o t .refusals ≡ t .refusals)) ×
+    (eqb (stockCallFault f o) 0 ≡ false → (stockTally f o t .stocks ≡ t .stocks) × CountsOne (t .refusals) (stockTally f o t .refusals))
 
 abbrev pub SomeAnswer : Type 0
 SomeAnswer = (f o : List ℕ) → (r : Told) × ((v : List ℕ) × StockOwes f o r v)

@@ -171,12 +171,11 @@ module _ (n : ℕ) (firsts seconds litFirsts litSeconds : List ℕ) (T : StockTa
           written = W;
         }
 
-    -- question 15's most searches are enough: the last one found none, and the pairs are a plan
-    pub plan-marked : most ≡ searchesMost → {xs ys xs′ ys′ : List ℕ} {k : ℕ} (ms₀ : List ℕ) {ms : List ℕ} →
+    -- with more searches than there is gain the last one found none, and the pairs are a plan
+    pub plan-marked : gain s < most → {xs ys xs′ ys′ : List ℕ} {k : ℕ} (ms₀ : List ℕ) {ms : List ℕ} →
         PairsWritten xs ys 0 xs′ ys′ k (pairsInOrder p (below (length row))) → length ms₀ ≡ n →
         ms ≡ marksBy (isIncluded fs) (isFlagged reached) (below (length ms₀)) → PlanMarked s xs ys xs′ ys′ ms k
-    plan-marked whole {k = k} ms₀ W l m =
-        let enough : gain s < most = omega (arith, enough-searches s (T .well-formed) (T .cameras-few)) in
+    plan-marked enough {k = k} ms₀ W l m =
         let E = R .none (counts .2 ∙ lt-ltb (gain s) most enough) .2 in
         let B = budget-listed {k = record { pairs = k; ending = r }} W refl in
         record {

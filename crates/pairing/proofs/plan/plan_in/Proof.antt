@@ -1,9 +1,8 @@
 -- The last search and the fits tell the marks, and the row the pairs of a plan.
-use mathlib.Core.Path.{refl}
 use native.Mathlib.Omega.{arith}
 use denote.Ref.{now}
 use borrow.Author.Needs.{needs}
-use Rattle.pairing.proofs.Improving.{stock-fits, plan-marked}
+use Rattle.pairing.proofs.Improving.{enough-searches, stock-fits, plan-marked}
 use Rattle.pairing.proofs.plan.plan_in.Statement.{statement}
 use Rattle.pairing.proofs.plan.plan_in.Tie as tie
 
@@ -40,7 +39,8 @@ same-length-5 c = search needs
 returns : tie.Need-returns
 returns c =
     let S = c .before .before .before .before .before .before .before .before .before .before .before .before .before .before .before .before .before .before .before .before .before .before .before .before .before .before .before .before .before in
-    plan-marked _ _ _ _ _ (S .pre .0) (c .before .before .before .before .before .before .before .before .before .before .before .before .before .before .before .before .before .search-from-lit .ensures) refl (now (S .args .marks)) (c .before .before .before .before .pairs-of .ensures) (S .pre .1 .1 .1) (c .before .before .before .before .before .before .before .before .before .before .marks-of .ensures)
+    let enough = enough-searches _ (S .pre .0 .well-formed) (S .pre .0 .cameras-few) in
+    plan-marked _ _ _ _ _ (S .pre .0) (c .before .before .before .before .before .before .before .before .before .before .before .before .before .before .before .before .before .search-from-lit .ensures) (omega arith) (now (S .args .marks)) (c .before .before .before .before .pairs-of .ensures) (S .pre .1 .1 .1) (c .before .before .before .before .before .before .before .before .before .before .marks-of .ensures)
 
 pub plan-in-spec : {M : Type 1} → statement M
 plan-in-spec =
