@@ -1,7 +1,7 @@
 //! Engines with one part wrong. The tests must fail on each of them.
 //!   engines     every wrong engine with what is wrong of it
 //!   Named       what is wrong, and the engine
-//!   improve_in_tree    a search without blossoms
+//!   without_blossoms, improve_in_tree    a plan by searches without blossoms; one such search
 //! First those that document 01 shuts out, then its traps, then slips of other kinds (slips.rs), then those in line ends
 //! (wrong_line_ends.rs), in the marks of cameras without a fit (wrong_isolated.rs), in look-ups and question 13 (wrong_look_ups.rs), in
 //! the call that stops after so many searches (wrong_budgets.rs), in question 16 (wrong_self_arcs.rs), and in what a stock gets, a plan
@@ -97,7 +97,7 @@ fn traps() -> Vec<Named> {
 }
 
 /// Alternating breadth-first search that gives each camera one place in the tree.
-fn without_blossoms(stock: &Stock) -> Vec<Pair> {
+pub fn without_blossoms(stock: &Stock) -> Vec<Pair> {
     let lists = neighbours(stock.cameras, &stock.fits);
     let mut partner = partners(stock.cameras, &stock.lit);
     for root in 0..stock.cameras {

@@ -7,12 +7,12 @@
 //! First those with another number of pairs, then with other marks, then with another plan.
 
 use crate::arc_matching::reachable;
-use crate::blossom::{augment, marks_from, neighbours, pairs, partners, Partners};
+use crate::blossom::{augment, marks_from, neighbours, partners, Partners};
 use crate::frames::{file, pair_lines, plan_file, printout, sheet_file, Pair, PLAN};
 use crate::generate::doubled_table;
 use crate::reference::{self, Parts};
 use crate::stock_trial::{all_pairings, includes, marks_by, Standing, Stock, ISOLATED};
-use crate::wrong::{improve_in_tree, named, Named};
+use crate::wrong::{named, without_blossoms, Named};
 use crate::wrong_budgets::{greatest, unlit};
 use crate::wrong_printouts::{printing, without_end, without_header};
 use std::collections::VecDeque;
@@ -93,17 +93,6 @@ fn greedy(stock: &Stock) -> Vec<Pair> {
     }
     all.sort_unstable();
     all
-}
-
-fn without_blossoms(stock: &Stock) -> Vec<Pair> {
-    let lists = neighbours(stock.cameras, &stock.fits);
-    let mut partner = partners(stock.cameras, &stock.lit);
-    for root in 0..stock.cameras {
-        if partner[root].is_none() {
-            improve_in_tree(&lists, &mut partner, root);
-        }
-    }
-    pairs(&partner)
 }
 
 fn in_base_ten(_: &Stock, plan: &[Pair], standing: &Standing) -> Vec<u8> {
