@@ -1,10 +1,11 @@
 -- An answer is whole lines of digits, each ended by a line feed alone (document 02, L1).
 --   path-plain, barrier-plain     of a path and of a barrier
+--   plan-plain, sheet-plain       of a plan and of a standing sheet
 --   plan-sheet-plain              of a plan and the standing sheet behind it
 --   budget-plain                  of what a budget of searches comes to
-use mathlib.Core.Path.{_≡_, refl, ap, _∙_}
+use mathlib.Core.Path.{_≡_, refl, sym, ap, _∙_}
 use mathlib.Core.Bool.{true}
-use mathlib.Core.List.{List, [], _∷_, _++_, append-assoc}
+use mathlib.Core.List.{List, [], _∷_, _++_, append-assoc, append-nil}
 use Prim.Native.Nat.{ℕ, suc}
 use lib.ListN.{length}
 use Rattle.formats.specs.Kinds.{barrierEnd, barrierKind, budgetEnd, budgetKind, classKind, markKind, pairKind, pathEnd, pathKind, planEnd, planKind, sheetEnd, sheetKind, stepKind}
@@ -63,18 +64,22 @@ budget-plain k m ps =
     let e = frameOf4 budgetEnd (length ps) in
     frame8-plain budgetKind (length ps) k m (planLines ps ++ e) ∙ pairs-plain e ps ∙ end-plain budgetEnd (length ps)
 
-plan-plain : (ps : List Pair) (r : List ℕ) → isPlainText (planText ps ++ r) ≡ isPlainText r
+plan-before : (ps : List Pair) (r : List ℕ) → isPlainText (planText ps ++ r) ≡ isPlainText r
 unfolding hexBytes
-plan-plain ps r =
+plan-before ps r =
     let e = frameOf4 planEnd (length ps) in
     frame4-plain planKind (length ps) (planLines ps ++ e ++ r) ∙ ap isPlainText (append-assoc (planLines ps) e r) ∙ pairs-plain (e ++ r) ps ∙
     frameOf4-plain planEnd (length ps) r
 
-sheet-plain : (n : ℕ) (fs : List Pair) → isPlainText (sheetText n fs) ≡ true
+pub plan-plain : (ps : List Pair) → isPlainText (planText ps) ≡ true
+unfolding endsWhole linesOf all among
+plan-plain ps = sym (ap isPlainText (append-nil (planText ps))) ∙ plan-before ps []
+
+pub sheet-plain : (n : ℕ) (fs : List Pair) → isPlainText (sheetText n fs) ≡ true
 unfolding hexBytes
 sheet-plain n fs =
     let e = frameOf4 sheetEnd n in
     frame4-plain sheetKind (greatest fs) (markLines 0 (marksOf n fs) ++ e) ∙ marks-plain e 0 (marksOf n fs) ∙ end-plain sheetEnd n
 
 pub plan-sheet-plain : (s : Stock) (ps : List Pair) → isPlainText (planAndSheet s ps) ≡ true
-plan-sheet-plain s ps = plan-plain ps (sheetText (s .cameras) (s .fits)) ∙ sheet-plain (s .cameras) (s .fits)
+plan-sheet-plain s ps = plan-before ps (sheetText (s .cameras) (s .fits)) ∙ sheet-plain (s .cameras) (s .fits)

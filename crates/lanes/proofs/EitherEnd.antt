@@ -14,7 +14,7 @@ use Rattle.frames.proofs.EitherEnd.{frame4-plain}
 use Rattle.files.specs.GraphFile.{graphIn}
 use Rattle.files.specs.SameLines.{SameLines}
 use Rattle.files.proofs.SameLines.{returns-same, too-long}
-use Rattle.files.proofs.AnswerEnds.{path-plain, barrier-plain, plan-sheet-plain, budget-plain}
+use Rattle.files.proofs.AnswerEnds.{path-plain, barrier-plain, plan-plain, sheet-plain, plan-sheet-plain, budget-plain}
 use Rattle.lanes.specs.Entry.{checkPost, verdictLine}
 use Rattle.lanes.specs.declared.Verdict.{Verdict}
 use Rattle.lanes.specs.declared.Verdict.the-variants.{Refused, Yes, No}
@@ -58,4 +58,4 @@ verdict-plain Yes = line-plain verdictKind 1
 verdict-plain No = line-plain verdictKind 0
 
 pub writes-plain : WritesPlain
-writes-plain = (path-plain, barrier-plain, plan-sheet-plain, budget-plain, line-plain refusalKind, verdict-plain)
+writes-plain = (path-plain, barrier-plain, plan-sheet-plain, plan-plain, sheet-plain, budget-plain, line-plain refusalKind, verdict-plain)

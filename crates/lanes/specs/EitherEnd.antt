@@ -3,7 +3,7 @@
 --   ReturnsAnswered      carriage returns put before line feeds change no answer and no refusal, but that a file they make too long gets 2
 --   ReturnsChecked       nor do they change a verdict, put into either file of the check or into both; but a graph that is too long gets 2, and a
 --                        certificate, where the graph is accepted, 42
---   WritesPlain          every answer, refusal and verdict is whole lines, each ended by a line feed alone
+--   WritesPlain          every answer, each half of a stock's by itself, refusal and verdict is whole lines, each ended by a line feed alone
 use mathlib.Core.Path.{_≡_}
 use mathlib.Core.Logic.{_↔_}
 use mathlib.Core.Bool.{Bool, true}
@@ -16,7 +16,7 @@ use Rattle.frames.specs.EitherEnd.{withReturns, isPlainText}
 use Rattle.frames.specs.Frames.{orElse}
 use Rattle.matching.specs.Stock.{Stock}
 use Rattle.files.specs.GraphFile.{graphFault}
-use Rattle.files.specs.StockFile.{planAndSheet, budgetText}
+use Rattle.files.specs.StockFile.{sheetText, planText, planAndSheet, budgetText}
 use Rattle.files.specs.CertificateFile.{pathText, barrierText}
 use Rattle.lanes.specs.Entry.{roomFault, answerFault, GraphOwes, graphTally, checkFault, checkPost, stockCallFault, StockOwes, stockTally, mostFault, budgetFault, BudgetOwes, budgetTally, refusalLine, verdictLine}
 use Rattle.lanes.specs.declared.Tally.{Tally}
@@ -56,6 +56,7 @@ ReturnsChecked =
 abbrev pub WritesPlain : Type 0
 WritesPlain =
     ((is : List ℕ) → isPlainText (pathText is) ≡ true) × ((cs : List ℕ) → isPlainText (barrierText cs) ≡ true) ×
-    ((s : Stock) (ps : List Pair) → isPlainText (planAndSheet s ps) ≡ true) ×
+    ((s : Stock) (ps : List Pair) → isPlainText (planAndSheet s ps) ≡ true) × ((ps : List Pair) → isPlainText (planText ps) ≡ true) ×
+    ((n : ℕ) (fs : List Pair) → isPlainText (sheetText n fs) ≡ true) ×
     ((k m : ℕ) (ps : List Pair) → isPlainText (budgetText k m ps) ≡ true) × ((n : ℕ) → isPlainText (refusalLine n) ≡ true) ×
     ((v : Verdict) → isPlainText (verdictLine v) ≡ true)
