@@ -5,7 +5,7 @@
 --   GraphCalls         what the graph call answers by value
 --   StockCalls         what the stock call answers by value
 --   BudgetCalls        what the budgeted call answers by value
---   Promise            what is promised of every file: demands 2 and 3, and the marked set
+--   Promise            what is promised of every file: demands 1 to 3, and the marked set
 --   StockPromise       what is promised of the stock call: the two halves of its answer
 --   BytePromise        five of both as document 03 states them
 --   BudgetPromise      what is promised of the budgeted call
