@@ -1,12 +1,12 @@
 -- What a plan's bytes tell.
 --   plan-header     the number in its header, whatever stands behind the plan
---   pairLine x, pairLines ps     a pair's line without its end; the lines of a plan's pairs
+--   pairLine x      a pair's line without its end
 --   plan-body       a plan's lines between header and end are those of its pairs
---   pair-lines-count, pairs-read     as many as there are pairs; and the pairs that they say
+--   pairs-read      and the pairs that they say
 use mathlib.Core.Path.{_≡_, refl, ap, _∙_}
 use mathlib.Core.Logic.{inl, inr}
-use mathlib.Core.List.{List, [], _∷_, _++_}
-use Prim.Native.Nat.{ℕ, suc, _-_, _<_}
+use mathlib.Core.List.{List, [], _∷_, _++_, map}
+use Prim.Native.Nat.{ℕ, _-_, _<_}
 use native.Mathlib.Omega.{arith}
 use lib.ListN.{length, length-append}
 use lib.Seq.{take-append-seam}
@@ -26,36 +26,27 @@ plan-header ps rest h = two-value (length ps) h
 abbrev pub pairLine : Pair → List ℕ
 pairLine x = hexBytes 2 pairKind ++ hexBytes 2 (x .first) ++ hexBytes 2 (x .second)
 
-unfoldable pub pairLines : List Pair → List (List ℕ)
-pairLines [] = []
-pairLines (x ∷ xs) = pairLine x ∷ pairLines xs
-
-pub pair-lines-count : (ps : List Pair) → length (pairLines ps) ≡ length ps
-unfolding pairLines
-pair-lines-count [] = refl
-pair-lines-count (x ∷ xs) = ap suc (pair-lines-count xs)
-
-lines-read : (ps : List Pair) (r : List ℕ) → linesOf (planLines ps ++ r) ≡ pairLines ps ++ linesOf r
-unfolding planLines pairLines hexBytes
+lines-read : (ps : List Pair) (r : List ℕ) → linesOf (planLines ps ++ r) ≡ map pairLine ps ++ linesOf r
+unfolding planLines hexBytes
 lines-read [] r = refl
 lines-read (x ∷ xs) r =
     frame6-line pairKind (x .first) (x .second) (planLines xs ++ r) ∙ ap (λ (ls : List (List ℕ)). pairLine x ∷ ls) (lines-read xs r)
 
-pub plan-body : (ps : List Pair) → bodyLines (planText ps) ≡ pairLines ps
+pub plan-body : (ps : List Pair) → bodyLines (planText ps) ≡ map pairLine ps
 unfolding hexBytes linesOf
 plan-body ps =
     let n = length ps in
     let end = hexBytes 2 planEnd ++ hexBytes 4 n in
-    let whole : linesOf (planText ps) ≡ (hexBytes 2 planKind ++ hexBytes 2 n) ∷ (pairLines ps ++ (end ∷ [])) =
+    let whole : linesOf (planText ps) ≡ (hexBytes 2 planKind ++ hexBytes 2 n) ∷ (map pairLine ps ++ (end ∷ [])) =
     frame4-line planKind n (planLines ps ++ frameOf4 planEnd n) ∙
     ap (λ (ls : List (List ℕ)). (hexBytes 2 planKind ++ hexBytes 2 n) ∷ ls)
-    (lines-read ps (frameOf4 planEnd n) ∙ ap (λ (ls : List (List ℕ)). pairLines ps ++ ls) (frameOf4-line planEnd n [])) in
-    let count : length (pairLines ps ++ (end ∷ [])) - 1 ≡ length (pairLines ps) = omega (arith, length-append (pairLines ps) (end ∷ [])) in
-    rw (whole, count) (take-append-seam (pairLines ps) (end ∷ []))
+    (lines-read ps (frameOf4 planEnd n) ∙ ap (λ (ls : List (List ℕ)). map pairLine ps ++ ls) (frameOf4-line planEnd n [])) in
+    let count : length (map pairLine ps ++ (end ∷ [])) - 1 ≡ length (map pairLine ps) = omega (arith, length-append (map pairLine ps) (end ∷ [])) in
+    rw (whole, count) (take-append-seam (map pairLine ps) (end ∷ []))
 
 -- THE PAIRS
-pub pairs-read : (ps : List Pair) → ((x : Pair) → In x ps → (x .first < 256) × (x .second < 256)) → pairsIn pairKind (pairLines ps) ≡ ps
-unfolding pairsIn pairLines hexBytes hexFrom
+pub pairs-read : (ps : List Pair) → ((x : Pair) → In x ps → (x .first < 256) × (x .second < 256)) → pairsIn pairKind (map pairLine ps) ≡ ps
+unfolding pairsIn hexBytes hexFrom
 pairs-read [] h = refl
 pairs-read (x ∷ xs) h =
     let low = h x (inl refl) in

@@ -10,7 +10,7 @@ use mathlib.Core.List.{List, [], _++_, append-assoc}
 use Prim.Native.Nat.{ℕ, _+_, _*_, _≤_, _<_}
 use native.Mathlib.Omega.{arith}
 use lib.Dec.{eqb}
-use lib.ListN.{length, take, drop, length-append}
+use lib.ListN.{length, take, drop, length-append, length-map}
 use lib.Seq.{take-append-seam, drop-append-seam}
 use borrow.Author.Tests.{eqb-true, eqb-false, lt-ltb, le-ltb}
 use Rattle.formats.specs.Kinds.{pairKind}
@@ -34,7 +34,7 @@ use Rattle.lanes.specs.declared.Told.{Told}
 use Rattle.lanes.specs.StockPromise.{AnsweredWith, sheetPlace, planHalf, sheetHalf, SheetBegins, HalvesFill, pairsRead, PlansTell, HalvesAgree, CountsOne, StockCounts, SomeAnswer, SheetsTell, SheetsByFits, SheetNumber, SheetMarks, SameIsolated, cameraLine}
 use Rattle.files.proofs.AcceptedFiles.{accepted-stock, stock-few}
 use Rattle.files.proofs.AnswerLines.{plan-size}
-use Rattle.files.proofs.PlanBytes.{plan-header, plan-body, pair-lines-count, pairs-read}
+use Rattle.files.proofs.PlanBytes.{plan-header, pairLine, plan-body, pairs-read}
 use Rattle.files.proofs.SheetBytes.{sheet-found, sheets-alike, alike-sheets, sheet-number, sheet-line}
 use Rattle.lanes.proofs.Promises.{greatest-is}
 
@@ -136,7 +136,7 @@ module _ (f o v : List ℕ) (r : Told) (A : AnsweredWith f o r v) where
       let header : hexAt 2 2 v ≡ length ps =
       ap (hexAt 2 2) (leaves ∙ append-assoc (planText ps) sheet rest) ∙ plan-header ps (sheet ++ rest) (omega arith) in
       let lines : length (bodyLines (planHalf f v)) ≡ length ps =
-      ap (λ (t : List ℕ). length (bodyLines t)) plan-half ∙ ap (λ (ls : List (List ℕ)). length ls) (plan-body ps) ∙ pair-lines-count ps in
+      ap (λ (t : List ℕ). length (bodyLines t)) plan-half ∙ ap (λ (ls : List (List ℕ)). length ls) (plan-body ps) ∙ length-map ps pairLine in
       (header ∙ count ∙ sym number, lines ∙ count ∙ sym number, ap (λ (k : ℕ). 12 + 7 * k) (sym (header ∙ count)))
 
 pub halves-fill : HalvesFill
