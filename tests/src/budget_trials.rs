@@ -4,8 +4,8 @@
 //!   known_large        the same of 127 cameras of which most are left over
 //!   rooms              rooms around 2,048 bytes, and around the longest answer, with budgets that are granted and such as are not
 //!   over               budgets above 64, with good stocks
-//!   calls_in_a_row     random calls of every kind on one tally, also with counts at their largest
-//!   refusals           every question as the first failing one, alone and with each later one; 15 and 1 before them
+//!   calls_in_a_row     random calls of every kind by all callers on one tally, also with counts at their largest
+//!   refusals           every question as the first failing one, alone and with each later one; 15, 1 and 17 before them
 //!   answers_compared   all budgets from 0 to 64 for one stock, held to one another and to the plan and the sheet
 //!   budgets_add_up     the pairs of an answer lit in a second call: as one call with both budgets
 //!   one_at_a_time      the same with one search in each call, until one finds none
@@ -16,7 +16,7 @@
 //! Answers are compared as the engine gave them, whatever the trial says of them.
 
 use crate::cases::{by_trial, one_of};
-use crate::engine::Tally;
+use crate::engine::{Call, Counts, Tally};
 use crate::exhaustive::every_fits;
 use crate::faults::{failing, Kind};
 use crate::frames::{budget_file, halves, number, sheet_in, Pair, Text, BUDGET};
@@ -24,7 +24,7 @@ use crate::generate::{
     ear_fits, middling_stock, nearly_largest_lit, placed, shuffled_stock, small_stock, some_fits, some_lit, stock_of,
     stock_with_isolated,
 };
-use crate::judge::{shown, Call, Judge, Trial, LEAST_ROOM, OVER};
+use crate::judge::{shown, Counted, Judge, Trial, LEAST_ROOM, OVER};
 use crate::known::{budgets, graph, large_budgets, stock_files, stocks, KnownBudget, S5_BUDGETS};
 use crate::line_ends::every_choice;
 use crate::random::Random;
@@ -95,9 +95,10 @@ pub fn over(judge: &mut Judge) -> Trial {
         let truth = stock_truth(&file);
         for most in OVER {
             judge.budget_all_ways(&file, most, &truth)?;
-            judge.budget_failing(&file, most, None, &truth, &[])?;
+            failing_in(judge, None, &file, most, &truth, &[])?;
             in_small_rooms(judge, &file, most, &truth, &[])?;
         }
+        failing_in(judge, None, &file, MOST_SEARCHES, &truth, &[])?;
         in_small_rooms(judge, &file, MOST_SEARCHES, &truth, &[])?;
         judge.budget(&file, MOST_SEARCHES)?;
     }
@@ -106,13 +107,16 @@ pub fn over(judge: &mut Judge) -> Trial {
 
 /// Rooms that fail 1, and a file that fails these questions.
 fn in_small_rooms(judge: &mut Judge, file: &[u8], most: u32, truth: &StockTruth, faults: &[u8]) -> Trial {
-    [0, LEAST_ROOM - 1].into_iter().try_for_each(|room| judge.budget_failing(file, most, Some(room), truth, faults))
+    [0, LEAST_ROOM - 1].into_iter().try_for_each(|room| failing_in(judge, Some(room), file, most, truth, faults))
+}
+
+/// The same with a room that fails 1, or with none such.
+fn failing_in(judge: &mut Judge, short: Option<usize>, file: &[u8], most: u32, truth: &StockTruth, faults: &[u8]) -> Trial {
+    judge.failing(Call::Budget(most), file, short, &budget_owed(truth, most), faults)
 }
 
 /// A call, its file, and the count that it raises.
-type Counted = (Call, Vec<u8>, Count);
-
-fn some_call(random: &mut Random) -> Counted {
+fn some_call(random: &mut Random) -> (Call, Vec<u8>, Count) {
     let granted = Call::Budget(random.below(65) as u32);
     let refused = Call::Budget(*random.choose(&OVER));
     let of_stock = *random.choose(&[Call::Stock, granted]);
@@ -129,14 +133,15 @@ fn some_call(random: &mut Random) -> Counted {
 
 pub fn calls_in_a_row(judge: &mut Judge) -> Trial {
     for start in [0, 3, u32::MAX - 12, u32::MAX - 1, u32::MAX] {
-        let calls: Vec<Counted> = (0..40).map(|_| some_call(&mut judge.random)).collect();
-        let calls: Vec<(Call, &[u8], Count)> = calls.iter().map(|(call, file, count)| (*call, &file[..], *count)).collect();
-        for tally in [
-            Tally { paths: start, barriers: start, stocks: start, refusals: start },
-            Tally { stocks: start, ..Tally::default() },
-            Tally { refusals: start, ..Tally::default() },
+        let calls: Vec<_> = (0..40).map(|_| some_call(&mut judge.random)).collect();
+        let calls: Vec<Counted> =
+            calls.iter().map(|(call, file, count)| (*call, judge.some_caller(), &file[..], *count)).collect();
+        for counts in [
+            Counts { paths: start, barriers: start, stocks: start, refusals: start },
+            Counts { stocks: start, ..Counts::default() },
+            Counts { refusals: start, ..Counts::default() },
         ] {
-            judge.in_a_row(tally, &calls)?;
+            judge.in_a_row(Tally::of_each(counts), &calls)?;
         }
     }
     Ok(())
@@ -149,14 +154,15 @@ pub fn refusals(judge: &mut Judge) -> Trial {
     })
 }
 
-/// A file that fails these questions, with budgets that fail 15 or do not, and with rooms that fail 1 or do not.
+/// A file that fails these questions, with budgets that fail 15 or do not, with rooms that fail 1 or do not, and from callers that fail 17
+/// or do not.
 fn refused_by(judge: &mut Judge, faults: &[u8]) -> Trial {
     let file = failing(&mut judge.random, Kind::Stock, faults)?;
     let truth = stock_truth(&file);
     by_trial(&file, matches!(truth, StockTruth::Refused(number) if number == faults[0]), true)?;
     let some = judge.random.below(65) as u32;
     for most in [0, some, MOST_SEARCHES].into_iter().chain(OVER) {
-        judge.budget_failing(&file, most, None, &truth, faults)?;
+        failing_in(judge, None, &file, most, &truth, faults)?;
     }
     judge.budget_all_ways(&file, some, &truth)?;
     [0, some, MOST_SEARCHES + 1, u32::MAX].into_iter().try_for_each(|most| in_small_rooms(judge, &file, most, &truth, faults))

@@ -2,7 +2,7 @@
 //!   graph_examples, stock_examples    G1 to G5, S1 to S7
 //!   examples_folder                   the files of examples/ are these and those of known.rs with isolated cameras or budgets, no others,
 //!                                     and their answers are right
-//!   tallies                           calls in a row, with counts at and near 4,294,967,295
+//!   tallies                           calls in a row by every caller, with counts at and near 4,294,967,295
 //!   edges                             sizes at which a question changes its answer, and the buffer's; a fit behind a lit pair
 //!   FIT_BEHIND_LIT                    stocks with one
 //!   traps                             document 01's traps
@@ -12,11 +12,11 @@
 //!   graph_of_arcs                     a graph of a number of arcs
 //!   points_left_to_the_reader         what is decided where document 01 can be read in two ways
 
-use crate::engine::{Tally, Verdict};
+use crate::engine::{Call, Counts, Tally, Verdict};
 use crate::frames::{barrier_file, file, graph_file, pair_lines, path_file, printout, stock_file, Pair};
 use crate::generate::all_fits;
 use crate::graph_trial;
-use crate::judge::{shown, Call, Judge, Trial, LEAST_ROOM};
+use crate::judge::{by_all_callers, shown, Judge, Trial, LEAST_ROOM};
 use crate::known::{graph, graphs, isolated_examples, stock, stocks, KnownGraph, G3, G4, G5, S5_BUDGETS, S7};
 use crate::line_ends::cr_lf;
 use crate::prints::verdict_line;
@@ -185,12 +185,17 @@ pub fn tallies(judge: &mut Judge) -> Trial {
         (Call::Budget(65), &chain, Count::Refusals),
         (Call::Budget(1), b"", Count::Refusals),
     ];
+    let calls = by_all_callers(&calls);
     for start in [0, 7, u32::MAX - 2, u32::MAX - 1, u32::MAX] {
-        judge.in_a_row(Tally { paths: start, barriers: start, stocks: start, refusals: start }, &calls)?;
-        judge.in_a_row(Tally { paths: start, ..Tally::default() }, &calls)?;
-        judge.in_a_row(Tally { barriers: start, ..Tally::default() }, &calls)?;
-        judge.in_a_row(Tally { stocks: start, ..Tally::default() }, &calls)?;
-        judge.in_a_row(Tally { refusals: start, ..Tally::default() }, &calls)?;
+        for counts in [
+            Counts { paths: start, barriers: start, stocks: start, refusals: start },
+            Counts { paths: start, ..Counts::default() },
+            Counts { barriers: start, ..Counts::default() },
+            Counts { stocks: start, ..Counts::default() },
+            Counts { refusals: start, ..Counts::default() },
+        ] {
+            judge.in_a_row(Tally::of_each(counts), &calls)?;
+        }
     }
     Ok(())
 }

@@ -12,8 +12,8 @@ use crate::programs::Programs;
 use crate::random::Random;
 use crate::seen::Seen;
 use crate::{
-    budget_trials, cases, damage, exhaustive, isolated_trials, large, line_end_trials, lit_pair_trials, look_up_trials,
-    printout_trials, program_trials, self_arc_trials, self_checks, sizes, trials,
+    budget_trials, caller_trials, cases, damage, exhaustive, isolated_trials, large, line_end_trials, lit_pair_trials,
+    look_up_trials, printout_trials, program_trials, self_arc_trials, self_checks, sizes, trials,
 };
 use std::panic::{catch_unwind, AssertUnwindSafe};
 
@@ -90,6 +90,13 @@ pub fn of_engine() -> Vec<EngineGroup> {
         drawn("budgets: calls in a row", budget_trials::calls_in_a_row),
         drawn("printouts: one after another", printout_trials::one_after_another),
         fixed("printouts: over what a buffer holds", printout_trials::over_content),
+        fixed("callers: known calls", caller_trials::known),
+        fixed("callers: above 3", caller_trials::above_3),
+        fixed("callers: each count", caller_trials::each_count),
+        drawn("callers: before faults", caller_trials::before_faults),
+        share("callers: calls on one tally", 5, caller_trials::on_one_tally),
+        share("callers: others between", 5, caller_trials::others_between),
+        share("callers: the same answers", 20, caller_trials::same_answers),
         drawn("self arcs: beside certificates", self_arc_trials::beside_certificates),
         drawn("isolated cameras: known stocks", isolated_trials::known),
         fixed("isolated cameras: equal sheets", isolated_trials::equal_sheets),
@@ -118,6 +125,8 @@ pub fn of_engine() -> Vec<EngineGroup> {
         share("pairs of faults", 50, trials::pairs_of_faults),
         drawn("printouts: every refusal", printout_trials::refusals),
         drawn("budgets: every refusal", budget_trials::refusals),
+        drawn("callers: every refusal of a graph", caller_trials::graph_refusals),
+        drawn("callers: every fault", caller_trials::every_fault),
         drawn("faults in both files of a check", trials::faults_in_both_files),
         drawn("self arcs: with other faults", self_arc_trials::with_other_faults),
         share("self arcs: in each arc", 2, self_arc_trials::in_each_arc),

@@ -11,12 +11,13 @@
 //! Sheets are compared with one another as the engine gave them behind a plan, whatever the trial says of their marks.
 
 use crate::cases::{by_trial, one_of, stock_answer};
+use crate::engine::Call;
 use crate::exhaustive::every_fits;
 use crate::frames::{sheet_in, Pair, Text, SHEET};
 use crate::generate::{
     all_fits, ear_fits, nearly_largest_lit, placed, places_among, some_fits, some_lit, stock_of, stock_with_isolated,
 };
-use crate::judge::{shown, Call, Judge, Trial};
+use crate::judge::{shown, Judge, Trial};
 use crate::known::isolated_stocks;
 use crate::large::try_stock;
 use crate::shapes::{row, triangles_in_a_row};

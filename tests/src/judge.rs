@@ -1,4 +1,5 @@
-//! Calls to an engine, each judged whole: refusal number, size, every byte of the buffer and around it, and the tally.
+//! Calls to an engine, each judged whole: refusal number, size, every byte of the buffer and around it, and the tally. Each comes from
+//! some caller, and at times the same call comes from a wrong one before it.
 //!   Judge                 an engine, a source of numbers, and counts of what was tried
 //!   graph, stock          a file handed to the calls for its kind, and judged by what the documents say of it
 //!   graph_answer          the same, and the answer, empty for a refusal
@@ -6,23 +7,28 @@
 //!   made_graph, made_stock    the same of a graph or stock that was made to be accepted
 //!   budget                a file and a number of searches handed to the call with a budget, and judged; the answer
 //!   budget_owing, budget_all_ways    the same where the truth is at hand; with all line ends
-//!   budget_failing        the same where some questions are answered no: the engine's number is counted, with the others of them
-//!   stock_owing, stock_failing    the same of the call for a stock alone, where the truth is at hand
+//!   stock_owing           the same of the call for a stock alone
+//!   failing               one call that fails some questions, from a caller and from a wrong one: the engine's numbers are counted, with
+//!                         the others of them
 //!   lend, lend_over       one call with a buffer of a size, or over what a buffer holds; the answer
-//!   Lent, one_after_another    what is lent to calls in a row, each of which is judged whole: a buffer and a tally
+//!   lend_to               the same of a caller
+//!   Sent, one_after_another    calls in a row, each of which is judged whole, in one buffer and on one tally, and checks between them
 //!   given                 an answer as the engine gives it, whatever the documents say of it
+//!   got, left_by          what a caller gets, and the tally that calls in a row leave, not judged
 //!   self_arcs             a graph file with self arcs handed to the graph call and to the check; the engine's numbers are counted
-//!   short_buffers         the same with a buffer that is too small
+//!   short_buffers, wrong_callers    any file with a buffer that is too small, or from wrong callers
 //!   all_calls             any bytes handed to every call
 //!   check, certificate    two files handed to the check; the second counted as a file tried
 //!   certificate_all_ways  the same with all line ends in both
-//!   in_a_row              calls on one tally
+//!   Counted, in_a_row     calls of callers on one tally, each with the count that it owes
+//!   by_all_callers        such calls, each by every caller
 //!   look_up, look_up_in   a pair looked up among fits, or among those that two slices give, and judged
 //!   looked_up             what a look-up answers, not judged
-//!   Call, OVER            a call, which an engine can be made to answer; numbers of searches that are not granted
+//!   OVER, wrong_caller    numbers of searches that are not granted; some number that is no caller's
+//!   raised, counts_of     a tally with one count of one caller raised; its counts for messages
 //!   Trial                 done, or what went wrong and on which file
 
-use crate::engine::{Engine, Fit, Looked, Searched, Tally, Verdict};
+use crate::engine::{Call, Engine, Fit, Looked, Searched, Tally, Told, Verdict, CALLERS, OF_EACH};
 use crate::fit_lists::{joined, parted};
 use crate::frames::{number, Text, GREATEST_FILE};
 use crate::graph_trial::{self, Graph, SELF_ARC};
@@ -31,34 +37,39 @@ use crate::random::Random;
 use crate::seen::{Came, Reading, Seen};
 use crate::stock_trial::{self, Stock};
 use crate::truth::{
-    budget_owed, graph_owed, graph_truth, look_up_owed, opening, stock_owed, stock_truth, Count, GraphTruth, Owed, StockTruth,
-    MOST_SEARCHES, OVER_BUDGET,
+    budget_owed, graph_owed, graph_truth, is_caller, look_up_owed, opening, owed, refused, stock_owed, stock_truth, truth_for,
+    Count, GraphTruth, Owed, StockTruth, MOST_SEARCHES, OVER_BUDGET, WIDE_CALLERS, WRONG_CALLER,
 };
 
 pub type Trial = Result<(), String>;
 
-#[derive(Clone, Copy, Debug, PartialEq)]
-pub enum Call {
-    Graph,
-    Stock,
-    /// with the number of searches that are granted
-    Budget(u32),
-}
+/// Numbers of searches that question 15 refuses: next to the largest, around one, two and four bytes, and such as end in a small byte.
+pub const OVER: [u32; 10] = [65, 127, 128, 255, 256, 320, 65_536, 65_600, 1 << 31, u32::MAX];
 
-impl Call {
-    /// Only the call with a budget tells searches.
-    pub fn by(self, engine: &dyn Engine, file: &[u8], out: &mut [u8], tally: &mut Tally) -> Searched {
-        let told = match self {
-            Call::Graph => engine.answer_graph(file, out, tally),
-            Call::Stock => engine.stock(file, out, tally),
-            Call::Budget(most) => return engine.budget(file, most, out, tally),
-        };
-        Searched { told, searches: 0 }
+/// Of one byte, such as stand out, or any.
+pub fn wrong_caller(random: &mut Random) -> u32 {
+    match random.below(4) {
+        0 => random.between(CALLERS, u32::MAX as usize) as u32,
+        1 => *random.choose(&WIDE_CALLERS),
+        _ => random.between(CALLERS, 255) as u32,
     }
 }
 
-/// Numbers of searches that question 15 refuses: next to the largest, around one, two and four bytes, and such as end in a small byte.
-pub const OVER: [u32; 10] = [65, 127, 128, 255, 256, 320, 65_536, 65_600, 1 << 31, u32::MAX];
+/// What is sent to an engine: a call of some caller, with a room that is lent to it, or two files for the check.
+#[derive(Clone)]
+pub enum Sent {
+    Call { call: Call, caller: u32, file: Vec<u8>, room: usize },
+    Check { graph: Vec<u8>, certificate: Vec<u8> },
+}
+
+/// A call, who makes it, its file, and the count that it raises.
+pub type Counted<'a> = (Call, u32, &'a [u8], Count);
+
+/// Each of these by every caller.
+pub fn by_all_callers<'a>(calls: &[(Call, &'a [u8], Count)]) -> Vec<Counted<'a>> {
+    let by_all = |(call, file, count): &(Call, &'a [u8], Count)| [0, 1, 2, 3].map(|caller| (*call, caller, *file, *count));
+    calls.iter().flat_map(by_all).collect()
+}
 
 pub struct Judge<'a> {
     engine: &'a dyn Engine,
@@ -158,14 +169,13 @@ impl<'a> Judge<'a> {
         Ok(())
     }
 
-    /// A file that was made to fail these questions, with a room that is too small, or else one that is large enough.
-    pub fn budget_failing(&mut self, file: &[u8], most: u32, short: Option<usize>, truth: &StockTruth, faults: &[u8]) -> Trial {
+    /// With a room that is too small, or else one that is large enough.
+    pub fn failing(&mut self, call: Call, file: &[u8], short: Option<usize>, owed: &Owed, faults: &[u8]) -> Trial {
         let room = short.unwrap_or_else(|| self.rooms().0);
-        let (told, _) = self.lent(Call::Budget(most), file, room, &budget_owed(truth, most))?;
-        let of_room = (room < LEAST_ROOM).then_some(1);
-        let of_most = (most > MOST_SEARCHES).then_some(OVER_BUDGET);
-        let failing: Vec<u8> = of_room.into_iter().chain(of_most).chain(faults.iter().copied()).collect();
-        self.seen.budget_refusal(told, &failing);
+        for caller in [self.some_caller(), wrong_caller(&mut self.random)] {
+            let (told, _) = self.lend_to(caller, call, file, room, owed)?;
+            self.seen.refusal(call.kind(), told, &failed_by(call, caller, room, faults));
+        }
         Ok(())
     }
 
@@ -183,10 +193,10 @@ impl<'a> Judge<'a> {
             self.seen.self_arcs(&graph);
         }
         let room = short.unwrap_or_else(|| self.rooms().0);
-        let (told, _) = self.lent(Call::Graph, file, room, &graph_owed(&truth))?;
-        let of_room = (room < LEAST_ROOM).then_some(1);
-        let of_call: Vec<u8> = of_room.into_iter().chain(failing.iter().copied()).collect();
-        self.seen.self_arc_refusal(Reading::Graph, file, told, &of_call);
+        for caller in [self.some_caller(), wrong_caller(&mut self.random)] {
+            let (told, _) = self.lend_to(caller, Call::Graph, file, room, &graph_owed(&truth))?;
+            self.seen.self_arc_refusal(Reading::Graph, file, told, &failed_by(Call::Graph, caller, room, &failing));
+        }
         self.seen.files += 1;
         if let Verdict::Refused(number) = self.checked(file, certificate)? {
             self.seen.self_arc_refusal(Reading::Check, file, number, &failing);
@@ -273,23 +283,23 @@ impl<'a> Judge<'a> {
         Ok(answer)
     }
 
-    /// A file that was made to fail these questions, with a room that is too small, or else one that is large enough.
-    pub fn stock_failing(&mut self, file: &[u8], short: Option<usize>, truth: &StockTruth, faults: &[u8]) -> Trial {
-        let room = short.unwrap_or_else(|| self.rooms().0);
-        let (told, _) = self.lent(Call::Stock, file, room, &stock_owed(truth))?;
-        let of_room = (room < LEAST_ROOM).then_some(1);
-        let failing: Vec<u8> = of_room.into_iter().chain(faults.iter().copied()).collect();
-        self.seen.stock_refusal(told, &failing);
-        Ok(())
-    }
-
     /// Whatever the file, a buffer of 2,047 gives 1.
     pub fn short_buffers(&mut self, file: &[u8]) -> Trial {
-        let owed = Owed { number: 1, count: Count::Refusals, is_right: Box::new(|_| false) };
-        let most = self.some_most();
-        [Call::Graph, Call::Stock, Call::Budget(most)]
-            .into_iter()
-            .try_for_each(|call| self.lend(call, file, LEAST_ROOM - 1, &owed).map(drop))
+        self.each_call().into_iter().try_for_each(|call| self.lend(call, file, LEAST_ROOM - 1, &refused(1)).map(drop))
+    }
+
+    /// Whatever the file and the buffer, a wrong caller gives 17.
+    pub fn wrong_callers(&mut self, file: &[u8]) -> Trial {
+        self.each_call().into_iter().try_for_each(|call| {
+            let room = *self.random.choose(&[0, LEAST_ROOM - 1, LEAST_ROOM]);
+            let caller = wrong_caller(&mut self.random);
+            self.lend_to(caller, call, file, room, &refused(WRONG_CALLER)).map(drop)
+        })
+    }
+
+    /// One of each kind, with some budget.
+    fn each_call(&mut self) -> [Call; 3] {
+        [Call::Graph, Call::Stock, Call::Budget(self.some_most())]
     }
 
     pub fn check(&mut self, graph: &[u8], certificate: &[u8]) -> Trial {
@@ -313,16 +323,16 @@ impl<'a> Judge<'a> {
         Err(format!("check says {said:?}, owed is {owed:?}\n{files}"))
     }
 
-    /// Calls in a row on one tally, each with the count that it owes.
-    pub fn in_a_row(&mut self, start: Tally, calls: &[(Call, &[u8], Count)]) -> Trial {
+    pub fn in_a_row(&mut self, start: Tally, calls: &[Counted]) -> Trial {
         let mut tally = start;
         let mut owed = start;
-        for (call, file, count) in calls {
-            call.by(self.engine, file, &mut [0; LEAST_ROOM], &mut tally);
+        for (call, caller, file, count) in calls {
+            call.by(self.engine, file, *caller, &mut [0; LEAST_ROOM], &mut tally);
             self.seen.calls += 1;
-            owed = raised(owed, *count);
+            owed = raised(owed, *caller, Some(*count));
             if tally != owed {
-                return Err(format!("tally {tally:?} where {owed:?} is owed, after {call:?} of\n{}", shown(file)));
+                let counts = format!("{} where {} is owed", counts_of(&tally), counts_of(&owed));
+                return Err(format!("tally {counts}, after {call:?} by caller {caller} of\n{}", shown(file)));
             }
         }
         Ok(())
@@ -355,7 +365,12 @@ impl<'a> Judge<'a> {
 
     /// One call with a buffer of a size. Returns the answer, empty for a refusal.
     pub fn lend(&mut self, call: Call, file: &[u8], room: usize, owed: &Owed) -> Result<Vec<u8>, String> {
-        self.lent(call, file, room, owed).map(|(_, answer)| answer)
+        if self.random.chance(5) {
+            let wrong = wrong_caller(&mut self.random);
+            self.lend_to(wrong, call, file, room, owed)?;
+        }
+        let caller = self.some_caller();
+        self.lend_to(caller, call, file, room, owed).map(|(_, answer)| answer)
     }
 
     /// One call with a buffer that holds something.
@@ -363,54 +378,82 @@ impl<'a> Judge<'a> {
         let mut lent = self.some_lent(content.len());
         let Lent { start, room, .. } = lent;
         lent.bytes[start..start + room].copy_from_slice(content);
-        self.judged(call, file, &mut lent, owed).map(|(_, answer)| answer)
+        let caller = self.some_caller();
+        self.judged(call, caller, file, &mut lent, owed).map(|(_, answer)| answer)
     }
 
-    /// Calls in a row on one tally and in one buffer, of which each gets a room at the front; each is judged whole.
-    pub fn one_after_another(&mut self, tally: Tally, calls: &[(Call, Vec<u8>, usize)]) -> Trial {
-        let rooms = calls.iter().map(|(_, _, room)| *room);
-        let mut lent = self.some_lent(rooms.max().unwrap_or(0));
+    /// One call of a caller, right or wrong. Returns the refusal number that the engine told, and the answer.
+    pub fn lend_to(&mut self, caller: u32, call: Call, file: &[u8], room: usize, owed: &Owed) -> Result<(u8, Vec<u8>), String> {
+        let mut lent = self.some_lent(room);
+        self.judged(call, caller, file, &mut lent, owed)
+    }
+
+    /// Each call gets a room at the front of the buffer. Returns the refusal numbers that were told, 0 for an answer, and the tally.
+    pub fn one_after_another(&mut self, tally: Tally, all: &[Sent]) -> Result<(Vec<u8>, Tally), String> {
+        let room_of = |sent: &Sent| if let Sent::Call { room, .. } = sent { *room } else { 0 };
+        let mut lent = self.some_lent(all.iter().map(room_of).max().unwrap_or(0));
         lent.tally = tally;
-        calls.iter().try_for_each(|(call, file, room)| {
-            lent.room = *room;
-            match call {
-                Call::Graph => self.judged(*call, file, &mut lent, &graph_owed(&graph_truth(file))),
-                Call::Stock => self.judged(*call, file, &mut lent, &stock_owed(&stock_truth(file))),
-                Call::Budget(most) => self.judged(*call, file, &mut lent, &budget_owed(&stock_truth(file), *most)),
+        let mut numbers = Vec::new();
+        for sent in all {
+            match sent {
+                Sent::Check { graph, certificate } => self.check(graph, certificate)?,
+                Sent::Call { call, caller, file, room } => {
+                    lent.room = *room;
+                    let truth = truth_for(*call, file);
+                    numbers.push(self.judged(*call, *caller, file, &mut lent, &owed(*call, &truth))?.0);
+                }
             }
-            .map(drop)
-        })
+        }
+        Ok((numbers, lent.tally))
+    }
+
+    /// The refusal number, and the answer.
+    pub fn got(&mut self, caller: u32, call: Call, file: &[u8]) -> (u8, Vec<u8>) {
+        let mut out = [0; LEAST_ROOM];
+        let Told { number, size } = call.by(self.engine, file, caller, &mut out, &mut Tally::default()).told;
+        self.seen.calls += 1;
+        (number, out[..size.min(LEAST_ROOM)].to_vec())
+    }
+
+    pub fn left_by(&mut self, tally: Tally, all: &[Sent]) -> Tally {
+        let mut left = tally;
+        for sent in all {
+            match sent {
+                Sent::Check { graph, certificate } => {
+                    self.engine.check(graph, certificate);
+                }
+                Sent::Call { call, caller, file, room } => {
+                    call.by(self.engine, file, *caller, &mut vec![0; *room], &mut left);
+                }
+            }
+        }
+        self.seen.calls += all.len();
+        left
     }
 
     /// A buffer of a size at any address, any bytes in it and around it, and any tally.
     fn some_lent(&mut self, room: usize) -> Lent {
         let start = MARGIN + self.random.below(16);
-        let bytes: Vec<u8> = (0..start + room + MARGIN).map(|_| self.random.byte()).collect();
-        Lent { bytes, start, room, tally: self.some_tally() }
-    }
-
-    /// The same as lend, and before the answer the refusal number that the engine told.
-    fn lent(&mut self, call: Call, file: &[u8], room: usize, owed: &Owed) -> Result<(u8, Vec<u8>), String> {
-        let mut lent = self.some_lent(room);
-        self.judged(call, file, &mut lent, owed)
+        Lent { bytes: self.random.bytes(start + room + MARGIN), start, room, tally: self.some_tally() }
     }
 
     /// One call on what is lent to it, where its bytes and counts remain.
-    fn judged(&mut self, call: Call, file: &[u8], lent: &mut Lent, owed: &Owed) -> Result<(u8, Vec<u8>), String> {
+    fn judged(&mut self, call: Call, caller: u32, file: &[u8], lent: &mut Lent, owed: &Owed) -> Result<(u8, Vec<u8>), String> {
         let Lent { start, room, tally: tally_before, .. } = *lent;
-        let (number, count) = if room < LEAST_ROOM { (1, Count::Refusals) } else { (owed.number, owed.count) };
+        let (number, count) = due(caller, room, owed);
         let before = lent.bytes.clone();
         let after = &mut lent.bytes;
         let tally = &mut lent.tally;
-        let Searched { told, searches } = call.by(self.engine, file, &mut after[start..start + room], tally);
+        let Searched { told, searches } = call.by(self.engine, file, caller, &mut after[start..start + room], tally);
         let came = match count {
-            Count::Paths => Came::Path,
-            Count::Barriers => Came::Barrier,
-            Count::Stocks => Came::Stock,
-            Count::Refusals => Came::Refusal(number),
+            Some(Count::Paths) => Came::Path,
+            Some(Count::Barriers) => Came::Barrier,
+            Some(Count::Stocks) => Came::Stock,
+            Some(Count::Refusals) | None => Came::Refusal(number),
         };
         self.seen.call(&[file], came);
-        let fault = |what: String| Err(format!("{call:?} with a buffer of {room}: {what}\n{}", shown(file)));
+        self.seen.caller(call.kind(), caller, count, &tally_before);
+        let fault = |what: String| Err(format!("{call:?} by caller {caller} with a buffer of {room}: {what}\n{}", shown(file)));
         if told.number != number {
             return fault(format!("refusal {} where {number} is owed (0: an answer)", told.number));
         }
@@ -421,8 +464,8 @@ impl<'a> Judge<'a> {
         if before[..start] != after[..start] || before[start + told.size..] != after[start + told.size..] {
             return fault("a byte outside the answer changed".to_string());
         }
-        if *tally != raised(tally_before, count) {
-            return fault(format!("tally {tally:?} after {tally_before:?}, and {count:?} is owed"));
+        if *tally != raised(tally_before, caller, count) {
+            return fault(format!("tally {} after {}, and {count:?} is owed", counts_of(tally), counts_of(&tally_before)));
         }
         if searches != searches_in(call, &answer) {
             return fault(format!("{searches} searches told, with the answer\n{}to:", shown(&answer)));
@@ -451,15 +494,36 @@ impl<'a> Judge<'a> {
     }
 
     /// Counts of any size, at times at their largest value or one below.
-    fn some_tally(&mut self) -> Tally {
+    pub fn some_tally(&mut self) -> Tally {
         let mut count = || match self.random.below(6) {
             0 => u32::MAX,
             1 => u32::MAX - 1,
             2 => 0,
             _ => self.random.number() as u32,
         };
-        Tally { paths: count(), barriers: count(), stocks: count(), refusals: count() }
+        Tally::of([0; CALLERS * OF_EACH].map(|_| count()))
     }
+
+    pub fn some_caller(&mut self) -> u32 {
+        self.random.below(CALLERS) as u32
+    }
+}
+
+/// The number that a call owes by its caller and its room, 0 for an answer, and the count of its caller that rises: 17 first, then 1.
+fn due(caller: u32, room: usize, owed: &Owed) -> (u8, Option<Count>) {
+    match (is_caller(caller), room < LEAST_ROOM) {
+        (false, _) => (WRONG_CALLER, None),
+        (true, true) => (1, Some(Count::Refusals)),
+        (true, false) => (owed.number, Some(owed.count)),
+    }
+}
+
+/// The questions that a call fails: by its caller, its room and its budget, and those that its file fails.
+fn failed_by(call: Call, caller: u32, room: usize, faults: &[u8]) -> Vec<u8> {
+    let of_caller = (!is_caller(caller)).then_some(WRONG_CALLER);
+    let of_room = (room < LEAST_ROOM).then_some(1);
+    let of_budget = matches!(call, Call::Budget(most) if most > MOST_SEARCHES).then_some(OVER_BUDGET);
+    of_caller.into_iter().chain(of_room).chain(of_budget).chain(faults.iter().copied()).collect()
 }
 
 /// The number of searches that an answer tells; a refusal, and another call's answer, tells none.
@@ -494,17 +558,20 @@ fn read_back<T: PartialEq>(read: Result<T, u8>, made: &T, file: &[u8]) -> Trial 
     }
 }
 
-/// One count up, unless it is at 4,294,967,295.
-pub fn raised(tally: Tally, count: Count) -> Tally {
-    let mut raised = tally;
-    let place = match count {
-        Count::Paths => &mut raised.paths,
-        Count::Barriers => &mut raised.barriers,
-        Count::Stocks => &mut raised.stocks,
-        Count::Refusals => &mut raised.refusals,
-    };
-    *place = place.saturating_add(1);
-    raised
+/// One count of one caller up, unless it is at 4,294,967,295; without a count nothing rises.
+pub fn raised(tally: Tally, caller: u32, count: Option<Count>) -> Tally {
+    let mut all = tally.all();
+    if let Some(count) = count {
+        let place = &mut all[count.place(caller)];
+        *place = place.saturating_add(1);
+    }
+    Tally::of(all)
+}
+
+/// The counts of a tally, caller by caller, for messages.
+pub fn counts_of(tally: &Tally) -> String {
+    let of_callers: Vec<String> = tally.all().chunks(OF_EACH).map(|counts| format!("{counts:?}")).collect();
+    of_callers.join(" ")
 }
 
 /// The beginning of a file, for messages; each CR is told.

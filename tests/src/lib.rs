@@ -17,6 +17,7 @@
 //!   wrong_printouts  engines that put a plan and its sheet together wrongly
 //!   wrong_halves     engines that give another plan or another sheet in it
 //!   wrong_self_arcs  engines that ask wrongly for arcs from a node to itself
+//!   wrong_callers    engines that take callers wrongly, or count for another
 //!   judge            a call judged whole: result, buffer, tally
 //!   seen             what was tried, counted
 //!   generate         random graphs and stocks
@@ -37,6 +38,7 @@
 //!   printout_trials  what a stock gets: a plan, directly followed by its sheet
 //!   budget_trials    the call that stops after so many searches
 //!   self_arc_trials  graphs with an arc from a node to itself
+//!   caller_trials    callers, and the counts of each
 //!   prints           what the programs print
 //!   programs         the programs, run and judged
 //!   stand_in         this binary in a program's place
@@ -50,6 +52,7 @@
 pub mod arc_matching;
 pub mod blossom;
 pub mod budget_trials;
+pub mod caller_trials;
 pub mod cases;
 pub mod damage;
 pub mod engine;
@@ -88,6 +91,7 @@ pub mod trials;
 pub mod truth;
 pub mod wrong;
 pub mod wrong_budgets;
+pub mod wrong_callers;
 pub mod wrong_halves;
 pub mod wrong_isolated;
 pub mod wrong_line_ends;

@@ -3,8 +3,8 @@
 //!   edges, edge_stocks  the shortest, the longest and others at an edge, with their sizes and the frames around the cut written out
 //!   rooms               rooms around 2,048 bytes, and around the sizes of printouts and of their halves
 //!   over_content        buffers that hold another printout, this one, or bytes that it could go on with
-//!   one_after_another   random calls of every kind on one tally and in one buffer, also with counts at their largest
-//!   refusals            every question as the first failing one, alone and with each later one; 1 before them
+//!   one_after_another   random calls of every kind by all callers on one tally and in one buffer, also with counts at their largest
+//!   refusals            every question as the first failing one, alone and with each later one; 1 and 17 before them
 //!   every_pairing_lit   every stock of a few cameras: the sheet is the same, in the same place, with every pairing lit
 //!   other_lit_pairs     the same of random stocks with random pairings lit; with the plan's own pairs lit nothing changes
 //!   largest_stocks      the same of 127 cameras
@@ -16,7 +16,7 @@
 
 use crate::blossom::marks_from;
 use crate::cases::{by_trial, one_of, stock_answer};
-use crate::engine::Tally;
+use crate::engine::{Call, Counts, Tally, CALLERS};
 use crate::exhaustive::every_fits;
 use crate::faults::{failing, Kind};
 use crate::frames::{halves, number, plan_bytes, printout, sheet_bytes, sheet_file, Pair, Text, BUDGET, PLAN, SHEET};
@@ -24,7 +24,7 @@ use crate::generate::{
     all_fits, ear_fits, middling_stock, nearly_largest_lit, shuffled_stock, small_stock, some_fits, some_lit, stock_of,
     stock_with_isolated,
 };
-use crate::judge::{shown, Call, Judge, Trial, LEAST_ROOM, OVER};
+use crate::judge::{shown, Judge, Sent, Trial, LEAST_ROOM, OVER};
 use crate::known::{graph, isolated_stocks, stock, stocks, KnownStock, G5, S7};
 use crate::random::Random;
 use crate::reference::search;
@@ -203,8 +203,7 @@ pub fn over_content(judge: &mut Judge) -> Trial {
 
 // ---- calls in a row
 
-/// A call, its file, and the room that is lent to it.
-fn some_call(random: &mut Random) -> (Call, Vec<u8>, usize) {
+fn some_call(random: &mut Random) -> Sent {
     let call = match random.below(8) {
         0 => Call::Graph,
         1 => Call::Budget(random.below(65) as u32),
@@ -219,15 +218,17 @@ fn some_call(random: &mut Random) -> (Call, Vec<u8>, usize) {
         _ => small_stock(random).file(),
     };
     let room = *random.choose(&[LEAST_ROOM, LEAST_ROOM, LEAST_ROOM, LEAST_ROOM - 1, LEAST_ROOM + 1, 3_000]);
-    (call, file, room)
+    Sent::Call { call, caller: random.below(CALLERS) as u32, file, room }
 }
 
 pub fn one_after_another(judge: &mut Judge) -> Trial {
     for start in [0, 1, u32::MAX - 20, u32::MAX - 2, u32::MAX - 1, u32::MAX] {
-        let calls: Vec<_> = (0..40).map(|_| some_call(&mut judge.random)).collect();
+        let calls: Vec<Sent> = (0..40).map(|_| some_call(&mut judge.random)).collect();
         judge.seen.files += 2 * calls.len();
-        judge.one_after_another(Tally { paths: start, barriers: start, stocks: start, refusals: start }, &calls)?;
-        judge.one_after_another(Tally { stocks: start, ..Tally::default() }, &calls)?;
+        let all = Counts { paths: start, barriers: start, stocks: start, refusals: start };
+        for counts in [all, Counts { stocks: start, ..Counts::default() }] {
+            judge.one_after_another(Tally::of_each(counts), &calls)?;
+        }
     }
     Ok(())
 }
@@ -238,23 +239,23 @@ pub fn refusals(judge: &mut Judge) -> Trial {
         STOCK_QUESTIONS[place + 1..].iter().try_for_each(|later| refused_by(judge, &[*first, *later]))
     })?;
     for file in [stocks()[4].stock.file(), stocks()[0].stock.file()] {
-        in_small_rooms(judge, &file, &stock_truth(&file), &[])?;
+        in_all_rooms(judge, &file, &stock_truth(&file), &[])?;
     }
     Ok(())
 }
 
-/// A file that fails these questions, with rooms that fail 1 or do not.
+/// A file that fails these questions, with rooms that fail 1 or do not, and from callers that fail 17 or do not.
 fn refused_by(judge: &mut Judge, faults: &[u8]) -> Trial {
     let file = failing(&mut judge.random, Kind::Stock, faults)?;
     let truth = stock_truth(&file);
     by_trial(&file, matches!(truth, StockTruth::Refused(number) if number == faults[0]), true)?;
     judge.seen.files += 1;
-    judge.stock_failing(&file, None, &truth, faults)?;
-    in_small_rooms(judge, &file, &truth, faults)
+    in_all_rooms(judge, &file, &truth, faults)
 }
 
-fn in_small_rooms(judge: &mut Judge, file: &[u8], truth: &StockTruth, faults: &[u8]) -> Trial {
-    [0, 1_354, LEAST_ROOM - 1].into_iter().try_for_each(|room| judge.stock_failing(file, Some(room), truth, faults))
+fn in_all_rooms(judge: &mut Judge, file: &[u8], truth: &StockTruth, faults: &[u8]) -> Trial {
+    let rooms = [None, Some(0), Some(1_354), Some(LEAST_ROOM - 1)];
+    rooms.into_iter().try_for_each(|short| judge.failing(Call::Stock, file, short, &stock_owed(truth), faults))
 }
 
 // ---- printouts compared

@@ -6,10 +6,9 @@
 //!                                  it is the only one, otherwise the number of body lines; of a plan and a sheet behind it, both
 //!   every_print                    all that the programs can come to: each refusal, each verdict, each size of answer
 
-use crate::engine::Verdict;
+use crate::engine::{Call, Verdict};
 use crate::frames::{halves, kind_of, number, Text, BARRIER, BUDGET, PATH, PLAN, SHEET};
 use crate::graph_trial::{CERTIFICATE_QUESTIONS, GRAPH_QUESTIONS};
-use crate::judge::Call;
 use crate::stock_trial::STOCK_QUESTIONS;
 use crate::truth::OVER_BUDGET;
 

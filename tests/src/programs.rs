@@ -7,8 +7,9 @@
 //!   check, check_given  graph.hex and cert.hex, each a file, nothing, or a link that leads nowhere (Given)
 //!   runs, never_printed     how often programs were run; what of all that they can come to was not met
 
+use crate::engine::Call;
 use crate::graph_trial;
-use crate::judge::{shown, Call, Trial};
+use crate::judge::{shown, Trial};
 use crate::prints::{every_print, prints_of, program_of, refusal_line, verdict_line, Print, CHECK_PROGRAM};
 use crate::reference::Parts;
 use crate::stand_in::{answered, WRONG_STATUS};

@@ -1,6 +1,7 @@
 //! A small seeded generator of numbers (splitmix64), so that each run can be repeated.
 //!   Random::new(seed)     the generator that starts at a seed
 //!   number(), byte()      any number, any byte
+//!   bytes(n)              n bytes
 //!   below(n)              a number from 0 to n - 1
 //!   between(low, high)    a number from low to high, both included
 //!   another(low, high, n) the same, but not n, which is one of them
@@ -40,6 +41,13 @@ impl Random {
 
     pub fn byte(&mut self) -> u8 {
         self.number() as u8
+    }
+
+    /// Eight of each number.
+    pub fn bytes(&mut self, length: usize) -> Vec<u8> {
+        let mut bytes = vec![0; length];
+        bytes.chunks_mut(8).for_each(|eight| eight.copy_from_slice(&self.number().to_le_bytes()[..eight.len()]));
+        bytes
     }
 
     pub fn chance(&mut self, percent: usize) -> bool {

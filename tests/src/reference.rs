@@ -4,14 +4,16 @@
 //!   Reached           a pairing that some searches have reached, their number, and the lanes at most still missing
 //!   Parts             the engine as a record of its parts
 //!   Parts::right      each part as the documents say
+//!   Parts::past_17    a call by its parts, once question 17 is answered
 //!   answer .. check   those of them that wrong ones are made from
 
 use crate::arc_matching;
 use crate::blossom;
-use crate::engine::{Engine, Fit, Looked, Searched, Tally, Told, Verdict};
+use crate::engine::{Call, Counts, Engine, Fit, Looked, Searched, Tally, Told, Verdict};
 use crate::frames::{barrier_file, budget_file, path_file, printout, Pair};
 use crate::graph_trial::{self, canonical, Certificate, Graph};
 use crate::stock_trial::{self, Standing, Stock};
+use crate::truth::WRONG_CALLER;
 
 pub enum GraphAnswer {
     Path(Vec<usize>),
@@ -38,8 +40,10 @@ pub type Reader<T> = Box<dyn Fn(&[u8]) -> Result<T, u8>>;
 pub type LookUp = Box<dyn Fn(&[u8], &[u8], Fit) -> Looked>;
 pub type Search = Box<dyn Fn(&Stock, u32) -> Reached>;
 // by the engine's other parts
-pub type BudgetCall = Box<dyn Fn(&Parts, &[u8], u32, &mut [u8], &mut Tally) -> Searched>;
-pub type FileCall = Box<dyn Fn(&Parts, &[u8], &mut [u8], &mut Tally) -> Told>;
+pub type BudgetCall = Box<dyn Fn(&Parts, &[u8], u32, &mut [u8], &mut Counts) -> Searched>;
+pub type FileCall = Box<dyn Fn(&Parts, &[u8], &mut [u8], &mut Counts) -> Told>;
+/// A call of any kind, its file, and who calls.
+pub type AnyCall = Box<dyn Fn(&Parts, Call, &[u8], u32, &mut [u8], &mut Tally) -> Searched>;
 pub type Printing = Box<dyn Fn(&Parts, &Stock) -> Vec<u8>>;
 pub type Check = Box<dyn Fn(&Parts, &[u8], &[u8]) -> Verdict>;
 pub type CertificateReader = Box<dyn Fn(&Graph, &[u8]) -> Result<Certificate, u8>>;
@@ -67,10 +71,12 @@ pub struct Parts {
     /// what a stock comes to within a number of searches
     pub search: Search,
     pub reached_file: fn(&Reached) -> Vec<u8>,
-    // calls, whole: of a graph, of a stock, of one with a budget, and the check
+    // calls past question 17, with the caller's own counts: of a graph, of a stock, of one with a budget
     pub answer_graph: FileCall,
     pub stock: FileCall,
     pub budget: BudgetCall,
+    // calls, whole: those three, and the check
+    pub call: AnyCall,
     pub check: Check,
 }
 
@@ -98,13 +104,24 @@ impl Parts {
             answer_graph: Box::new(answer_graph),
             stock: Box::new(stock),
             budget: Box::new(budget),
+            call: Box::new(call),
             check: Box::new(check),
         }
     }
 
-    pub fn refusal(&self, number: u8, out: &mut [u8], tally: &mut Tally) -> Told {
-        tally.refusals = (self.raise)(tally.refusals);
+    pub fn refusal(&self, number: u8, out: &mut [u8], counts: &mut Counts) -> Told {
+        counts.refusals = (self.raise)(counts.refusals);
         (self.refuse)(number, out)
+    }
+
+    /// On the caller's own counts.
+    pub fn past_17(&self, call: Call, file: &[u8], out: &mut [u8], counts: &mut Counts) -> Searched {
+        let told = match call {
+            Call::Graph => (self.answer_graph)(self, file, out, counts),
+            Call::Stock => (self.stock)(self, file, out, counts),
+            Call::Budget(most) => return (self.budget)(self, file, most, out, counts),
+        };
+        Searched { told, searches: 0 }
     }
 
     /// Question 1, then the file's.
@@ -117,11 +134,11 @@ impl Parts {
         room.map(|_| read)
     }
 
-    fn answer_stock(&self, file: &[u8], out: &mut [u8], tally: &mut Tally, text: impl FnOnce(&Stock) -> Vec<u8>) -> Told {
+    fn answer_stock(&self, file: &[u8], out: &mut [u8], counts: &mut Counts, text: impl FnOnce(&Stock) -> Vec<u8>) -> Told {
         match self.read(&self.read_stock, file, out) {
-            Err(number) => self.refusal(number, out, tally),
+            Err(number) => self.refusal(number, out, counts),
             Ok(stock) => {
-                tally.stocks = (self.raise)(tally.stocks);
+                counts.stocks = (self.raise)(counts.stocks);
                 (self.write)(&(self.ends)(file, text(&stock)), out)
             }
         }
@@ -184,17 +201,17 @@ pub fn search(stock: &Stock, most: u32) -> Reached {
     Reached { pairs: blossom::pairs(&partner), searches, missing: if found { left_over / 2 } else { 0 } }
 }
 
-pub fn stock(parts: &Parts, file: &[u8], out: &mut [u8], tally: &mut Tally) -> Told {
-    parts.answer_stock(file, out, tally, |stock| (parts.printout)(parts, stock))
+pub fn stock(parts: &Parts, file: &[u8], out: &mut [u8], counts: &mut Counts) -> Told {
+    parts.answer_stock(file, out, counts, |stock| (parts.printout)(parts, stock))
 }
 
 /// Question 1, then 15, then the file's.
-pub fn budget(parts: &Parts, file: &[u8], most: u32, out: &mut [u8], tally: &mut Tally) -> Searched {
+pub fn budget(parts: &Parts, file: &[u8], most: u32, out: &mut [u8], counts: &mut Counts) -> Searched {
     if out.len() >= parts.least_room && most > 64 {
-        return Searched { told: parts.refusal(15, out, tally), searches: 0 };
+        return Searched { told: parts.refusal(15, out, counts), searches: 0 };
     }
     let mut searches = 0;
-    let told = parts.answer_stock(file, out, tally, |stock| {
+    let told = parts.answer_stock(file, out, counts, |stock| {
         let reached = (parts.search)(stock, most);
         searches = reached.searches as u64;
         (parts.reached_file)(&reached)
@@ -202,17 +219,25 @@ pub fn budget(parts: &Parts, file: &[u8], most: u32, out: &mut [u8], tally: &mut
     Searched { told, searches }
 }
 
-pub fn answer_graph(parts: &Parts, file: &[u8], out: &mut [u8], tally: &mut Tally) -> Told {
+pub fn answer_graph(parts: &Parts, file: &[u8], out: &mut [u8], counts: &mut Counts) -> Told {
     let graph = match parts.read(&parts.read_graph, file, out) {
-        Err(number) => return parts.refusal(number, out, tally),
+        Err(number) => return parts.refusal(number, out, counts),
         Ok(graph) => graph,
     };
     let answer = (parts.answer)(&graph);
     match answer {
-        GraphAnswer::Path(_) => tally.paths = (parts.raise)(tally.paths),
-        GraphAnswer::Barrier(_) => tally.barriers = (parts.raise)(tally.barriers),
+        GraphAnswer::Path(_) => counts.paths = (parts.raise)(counts.paths),
+        GraphAnswer::Barrier(_) => counts.barriers = (parts.raise)(counts.barriers),
     }
     (parts.write)(&(parts.ends)(file, answer.file()), out)
+}
+
+/// Question 17, then the call on the caller's own counts.
+pub fn call(parts: &Parts, call: Call, file: &[u8], caller: u32, out: &mut [u8], tally: &mut Tally) -> Searched {
+    match tally.sets.get_mut(caller as usize) {
+        None => Searched { told: (parts.refuse)(WRONG_CALLER, out), searches: 0 },
+        Some(counts) => parts.past_17(call, file, out, counts),
+    }
 }
 
 /// The graph's questions, then the certificate's.
@@ -229,16 +254,16 @@ pub fn check(parts: &Parts, graph: &[u8], certificate: &[u8]) -> Verdict {
 }
 
 impl Engine for Parts {
-    fn answer_graph(&self, file: &[u8], out: &mut [u8], tally: &mut Tally) -> Told {
-        (self.answer_graph)(self, file, out, tally)
+    fn answer_graph(&self, file: &[u8], caller: u32, out: &mut [u8], tally: &mut Tally) -> Told {
+        (self.call)(self, Call::Graph, file, caller, out, tally).told
     }
 
-    fn stock(&self, file: &[u8], out: &mut [u8], tally: &mut Tally) -> Told {
-        (self.stock)(self, file, out, tally)
+    fn stock(&self, file: &[u8], caller: u32, out: &mut [u8], tally: &mut Tally) -> Told {
+        (self.call)(self, Call::Stock, file, caller, out, tally).told
     }
 
-    fn budget(&self, file: &[u8], most: u32, out: &mut [u8], tally: &mut Tally) -> Searched {
-        (self.budget)(self, file, most, out, tally)
+    fn budget(&self, file: &[u8], caller: u32, most: u32, out: &mut [u8], tally: &mut Tally) -> Searched {
+        (self.call)(self, Call::Budget(most), file, caller, out, tally)
     }
 
     fn check(&self, graph: &[u8], certificate: &[u8]) -> Verdict {

@@ -7,25 +7,28 @@
 //!   Budget      where a budget ends the searches, what it leaves missing, and of which stock
 //!   SelfArc     where a graph's self arcs stand, at which nodes, and beside what
 //!   Reading     the calls that read graphs
+//!   Level, Raised    where a count stood before it was to rise; which call raised which count of which caller, and from where
 //!   Seen        files, calls, and calls by what they came to, those on files with CR LF also by themselves; stocks by isolated cameras and
-//!               by lit pairs; printouts by what they tell, by their sizes and by what refused them; look-ups by what was sought; calls
-//!               with a budget by what they came to and by what refused them; graphs by self arcs, and calls on those by what refused them
+//!               by lit pairs; printouts by what they tell and by their sizes; look-ups by what was sought; calls with a budget by what they
+//!               came to; calls by what refused them; graphs by self arcs, and calls on those by what refused them; counts by who raised
+//!               them and what stood beside them; wrong callers
 //!   never_met   what of all that calls can come to was not met
 //!   too_rare    where isolated cameras stood in too few stocks
 //!   too_few_look_ups, too_few_lit_pairs, too_few_budgets    what was looked up too seldom; which lit pairs or budgets were met too seldom
-//!   never_refused    which questions never refused a budget, alone or with each later one
-//!   too_few_printouts, never_sized, never_refused_stocks    which printouts were met too seldom; which numbers of pairs and cameras never;
-//!               which questions never refused a stock, alone or with each later one
+//!   never_refused    which questions never refused a call, alone or with each later one
+//!   too_few_printouts, never_sized    which printouts were met too seldom; which numbers of pairs and cameras never
 //!   too_few_self_arcs    which self arcs were met too seldom
 //!   never_refused_self_arcs    where 16 never refused a call, alone or with 10, or no earlier question refused a graph with self arcs
+//!   too_few_raised, too_few_beside    which counts were raised too seldom, or beside which other one at its largest
+//!   never_called     which wrong callers never made which call
 
-use crate::engine::Fit;
+use crate::engine::{CallKind, Fit, Tally, CALLERS, CALL_KINDS, OF_EACH};
 use crate::fit_lists::{rises, MOST_FITS};
 use crate::frames::{plan_in, Pair, Text, BUDGET, PLAN};
 use crate::graph_trial::{is_self_arc, mate, mate_of, Graph, CERTIFICATE_QUESTIONS, GRAPH_QUESTIONS, MOST_ARCS, SELF_ARC};
 use crate::line_ends::{ends_of, has_cr_lf, Ends};
 use crate::stock_trial::{any_twice, includes, no_camera_twice, Standing, Stock, MOST_CAMERAS, MOST_PAIRS, STOCK_QUESTIONS};
-use crate::truth::{numbers_within, Numbers, MOST_SEARCHES, OVER_BUDGET};
+use crate::truth::{numbers_within, questions_of, wrong_callers, Count, Numbers, MOST_SEARCHES, OVER_BUDGET, WRONG_CALLER};
 use std::collections::{BTreeMap, BTreeSet};
 use std::fmt;
 
@@ -419,10 +422,6 @@ fn every_size() -> impl Iterator<Item = (usize, usize)> {
     (0..=MOST_PAIRS).flat_map(|pairs| (2 * pairs..=MOST_CAMERAS).map(move |cameras| (pairs, cameras)))
 }
 
-/// In the order of documents 01 and 02.
-const BUDGET_QUESTIONS: [u8; 14] = [1, 15, 2, 3, 4, 5, 6, 7, 8, 9, 11, 12, 13, 14];
-const PRINTOUT_QUESTIONS: [u8; 13] = [1, 2, 3, 4, 5, 6, 7, 8, 9, 11, 12, 13, 14];
-
 /// The first question answered no, and a later one, 0 where it is alone.
 fn refusals_in(order: &[u8]) -> Vec<(u8, u8)> {
     let with_later = |place: usize| order[place + 1..].iter().copied().chain([0]).collect::<Vec<u8>>();
@@ -533,10 +532,10 @@ pub enum Reading {
 pub type SelfArcRefusal = (Reading, Ends, u8, u8);
 
 fn self_arc_refusals() -> Vec<SelfArcRefusal> {
-    let of_file = GRAPH_QUESTIONS.into_iter().take_while(|question| *question != SELF_ARC);
-    let with_room: Vec<u8> = [1].into_iter().chain(of_file).collect();
+    let before = questions_of(CallKind::Graph).into_iter().take_while(|question| *question != SELF_ARC).collect::<Vec<u8>>();
     let mut all = Vec::new();
-    for (reading, earlier) in [(Reading::Graph, &with_room[..]), (Reading::Check, &with_room[1..])] {
+    // the check asks neither for a caller nor for room
+    for (reading, earlier) in [(Reading::Graph, &before[..]), (Reading::Check, &before[2..])] {
         for ends in [Ends::Lf, Ends::CrLf, Ends::Mixed] {
             all.extend([0, 10].map(|later| (reading, ends, SELF_ARC, later)));
             all.extend(earlier.iter().map(|first| (reading, ends, *first, SELF_ARC)));
@@ -553,8 +552,36 @@ fn beside(told: u8, failing: &[u8]) -> Vec<u8> {
     failing.iter().copied().filter(|question| *question != told).collect()
 }
 
-/// What is sought, which pairs are lit, what a printout tells, what a budget comes to and which self arcs there are is to be met that
-/// often.
+#[derive(Clone, Copy, Debug, PartialEq, Eq, PartialOrd, Ord)]
+pub enum Level {
+    Below,
+    /// it comes to its largest value
+    OneBelow,
+    /// it remains
+    Largest,
+}
+
+pub type Raised = (CallKind, u32, Count, Level);
+
+/// Every count that a call can raise, of every caller, from every level.
+fn every_raised() -> Vec<Raised> {
+    let answers = |kind: CallKind| match kind {
+        CallKind::Graph => &[Count::Paths, Count::Barriers][..],
+        CallKind::Stock | CallKind::Budget => &[Count::Stocks],
+    };
+    let mut all = Vec::new();
+    for kind in CALL_KINDS {
+        for count in answers(kind).iter().chain(&[Count::Refusals]) {
+            for caller in 0..CALLERS as u32 {
+                all.extend([Level::Below, Level::OneBelow, Level::Largest].map(|level| (kind, caller, *count, level)));
+            }
+        }
+    }
+    all
+}
+
+/// What is sought, which pairs are lit, what a printout tells, what a budget comes to, which self arcs there are and which count rises is to
+/// be met that often.
 const FEW: usize = 5;
 
 type Counts = BTreeMap<Came, usize>;
@@ -574,11 +601,14 @@ pub struct Seen {
     lit_pairs: BTreeMap<LitPair, usize>,
     printouts: BTreeMap<Printout, usize>,
     sizes: BTreeSet<(usize, usize)>,
-    stock_refusals: BTreeMap<(u8, u8), usize>,
     budgets: BTreeMap<Budget, usize>,
-    budget_refusals: BTreeMap<(u8, u8), usize>,
+    refusals: BTreeSet<(CallKind, u8, u8)>,
     self_arcs: BTreeMap<SelfArc, usize>,
     self_arc_refusals: BTreeMap<SelfArcRefusal, usize>,
+    raised: BTreeMap<Raised, usize>,
+    /// of each count that rose: how often each other one was at its largest
+    beside: [[usize; CALLERS * OF_EACH]; CALLERS * OF_EACH],
+    wrong_callers: BTreeMap<(CallKind, u32), usize>,
 }
 
 impl Seen {
@@ -621,19 +651,33 @@ impl Seen {
         *self.printouts.entry(kind).or_default() += 1;
     }
 
-    /// A call for a stock that fails these questions, and the number that the engine told.
-    pub fn stock_refusal(&mut self, told: u8, failing: &[u8]) {
-        beside(told, failing).into_iter().for_each(|other| *self.stock_refusals.entry((told, other)).or_default() += 1);
-    }
-
     /// A stock with a greatest number of pairs, a budget that is granted, and the answer.
     pub fn budget(&mut self, stock: &Stock, greatest: usize, most: u32, answer: &[u8]) {
         budget_kinds(stock, greatest, most, answer).into_iter().for_each(|kind| *self.budgets.entry(kind).or_default() += 1);
     }
 
-    /// A call with a budget that fails these questions, and the number that the engine told: with each other one, or 0 where it is alone.
-    pub fn budget_refusal(&mut self, told: u8, failing: &[u8]) {
-        beside(told, failing).into_iter().for_each(|other| *self.budget_refusals.entry((told, other)).or_default() += 1);
+    /// A call that fails these questions, and the number that the engine told: with each other one, or 0 where it is alone.
+    pub fn refusal(&mut self, kind: CallKind, told: u8, failing: &[u8]) {
+        self.refusals.extend(beside(told, failing).into_iter().map(|other| (kind, told, other)));
+    }
+
+    /// A call that raises a count of its caller in this tally, unless its caller is wrong.
+    pub fn caller(&mut self, kind: CallKind, caller: u32, count: Option<Count>, tally: &Tally) {
+        let Some(count) = count else {
+            *self.wrong_callers.entry((kind, caller)).or_default() += 1;
+            return;
+        };
+        let (all, place) = (tally.all(), count.place(caller));
+        let level = match all[place] {
+            u32::MAX => Level::Largest,
+            number if number == u32::MAX - 1 => Level::OneBelow,
+            _ => Level::Below,
+        };
+        *self.raised.entry((kind, caller, count, level)).or_default() += 1;
+        if level != Level::Largest {
+            let largest = self.beside[place].iter_mut().zip(all).filter(|(_, number)| *number == u32::MAX);
+            largest.for_each(|(times, _)| *times += 1);
+        }
     }
 
     /// A graph that no question before 16 refuses.
@@ -654,8 +698,25 @@ impl Seen {
         too_few(&ALL_BUDGETS, &self.budgets)
     }
 
-    pub fn never_refused(&self) -> Vec<(u8, u8)> {
-        refusals_in(&BUDGET_QUESTIONS).into_iter().filter(|refusal| !self.budget_refusals.contains_key(refusal)).collect()
+    pub fn never_refused(&self, kind: CallKind) -> Vec<(u8, u8)> {
+        let met = |(told, other): &(u8, u8)| self.refusals.contains(&(kind, *told, *other));
+        refusals_in(&questions_of(kind)).into_iter().filter(|refusal| !met(refusal)).collect()
+    }
+
+    pub fn too_few_raised(&self) -> Vec<Raised> {
+        too_few(&every_raised(), &self.raised)
+    }
+
+    /// The places of the count that rose and of the one that was at its largest.
+    pub fn too_few_beside(&self) -> Vec<(usize, usize)> {
+        let places = 0..CALLERS * OF_EACH;
+        let two = places.clone().flat_map(|one| places.clone().map(move |other| (one, other)));
+        two.filter(|(one, other)| one != other && self.beside[*one][*other] < FEW).collect()
+    }
+
+    pub fn never_called(&self) -> Vec<(CallKind, u32)> {
+        let every = CALL_KINDS.into_iter().flat_map(|kind| wrong_callers().into_iter().map(move |caller| (kind, caller)));
+        every.filter(|called| !self.wrong_callers.contains_key(called)).collect()
     }
 
     pub fn too_few_printouts(&self) -> Vec<Printout> {
@@ -665,10 +726,6 @@ impl Seen {
     /// Pairs and cameras.
     pub fn never_sized(&self) -> Vec<(usize, usize)> {
         every_size().filter(|size| !self.sizes.contains(size)).collect()
-    }
-
-    pub fn never_refused_stocks(&self) -> Vec<(u8, u8)> {
-        refusals_in(&PRINTOUT_QUESTIONS).into_iter().filter(|refusal| !self.stock_refusals.contains_key(refusal)).collect()
     }
 
     pub fn too_few_self_arcs(&self) -> Vec<SelfArc> {
@@ -704,11 +761,14 @@ impl Seen {
         add_counts(&mut self.lit_pairs, &other.lit_pairs);
         add_counts(&mut self.printouts, &other.printouts);
         self.sizes.extend(&other.sizes);
-        add_counts(&mut self.stock_refusals, &other.stock_refusals);
         add_counts(&mut self.budgets, &other.budgets);
-        add_counts(&mut self.budget_refusals, &other.budget_refusals);
+        self.refusals.extend(&other.refusals);
         add_counts(&mut self.self_arcs, &other.self_arcs);
         add_counts(&mut self.self_arc_refusals, &other.self_arc_refusals);
+        add_counts(&mut self.raised, &other.raised);
+        let more = other.beside.as_flattened();
+        self.beside.as_flattened_mut().iter_mut().zip(more).for_each(|(sum, more)| *sum += more);
+        add_counts(&mut self.wrong_callers, &other.wrong_callers);
     }
 
     /// In any files, and in files with CR LF.
@@ -728,13 +788,17 @@ fn too_few<K: Copy + Ord>(all: &[K], counts: &BTreeMap<K, usize>) -> Vec<K> {
 fn all() -> BTreeSet<Came> {
     let of_files = GRAPH_QUESTIONS.iter().chain(&STOCK_QUESTIONS).copied();
     let of_certificates = CERTIFICATE_QUESTIONS.iter().map(|number| number + 40);
-    let refusals = [1, OVER_BUDGET].into_iter().chain(of_files).chain(of_certificates).map(Came::Refusal);
+    let refusals = [WRONG_CALLER, 1, OVER_BUDGET].into_iter().chain(of_files).chain(of_certificates).map(Came::Refusal);
     [Came::Path, Came::Barrier, Came::Stock, Came::Yes, Came::No].into_iter().chain(refusals).collect()
 }
 
 fn told<K: fmt::Debug>(counts: &BTreeMap<K, usize>) -> String {
     let each: Vec<String> = counts.iter().map(|(counted, count)| format!("{counted:?}: {count}")).collect();
     each.join(", ")
+}
+
+fn total<K>(counts: &BTreeMap<K, usize>) -> usize {
+    counts.values().sum()
 }
 
 impl fmt::Display for Seen {
@@ -746,6 +810,7 @@ impl fmt::Display for Seen {
         writeln!(out, "printouts of {} sizes: {}", self.sizes.len(), told(&self.printouts))?;
         writeln!(out, "budgets: {}", told(&self.budgets))?;
         writeln!(out, "self arcs: {}", told(&self.self_arcs))?;
+        writeln!(out, "calls of callers 0 to 3: {}; of others: {}", total(&self.raised), total(&self.wrong_callers))?;
         write!(out, "{} look-ups: {}", self.look_ups, told(&self.sought))
     }
 }

@@ -3,7 +3,7 @@
 //!   of_check       in the check
 //!   of_questions   a question not put, put before the one that stands before it, or put in part
 
-use crate::engine::{Tally, Told};
+use crate::engine::{Counts, Told};
 use crate::frames::{Pair, LF};
 use crate::graph_trial::{self, is_barrier, Certificate, Graph, CERTIFICATE_QUESTIONS, GRAPH_QUESTIONS};
 use crate::reference::{self, GraphAnswer, Parts};
@@ -60,10 +60,10 @@ fn changing_a_byte(number: u8, out: &mut [u8]) -> Told {
     Told { number, size: 0 }
 }
 
-fn counts_exchanged(parts: &Parts, file: &[u8], out: &mut [u8], tally: &mut Tally) -> Told {
-    swap(&mut tally.paths, &mut tally.barriers);
-    let told = reference::answer_graph(parts, file, out, tally);
-    swap(&mut tally.paths, &mut tally.barriers);
+fn counts_exchanged(parts: &Parts, file: &[u8], out: &mut [u8], counts: &mut Counts) -> Told {
+    swap(&mut counts.paths, &mut counts.barriers);
+    let told = reference::answer_graph(parts, file, out, counts);
+    swap(&mut counts.paths, &mut counts.barriers);
     told
 }
 

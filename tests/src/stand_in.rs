@@ -5,8 +5,8 @@
 //!   granted             the number of searches that its words come to
 //!   answered            what a call that answers a file comes to
 
-use crate::engine::{Engine, Tally, Told, Verdict};
-use crate::judge::{Call, LEAST_ROOM};
+use crate::engine::{Call, Engine, Tally, Told, Verdict};
+use crate::judge::LEAST_ROOM;
 use crate::prints::{refusal_line, verdict_line, BUDGET_PROGRAM, CHECK_PROGRAM, GRAPH_PROGRAM, STOCK_PROGRAM};
 use std::fs::File;
 use std::io::{Read, Result as Done};
@@ -105,9 +105,10 @@ fn checked(engine: &dyn Engine, manner: &Manner) -> Done<Vec<u8>> {
     })
 }
 
+/// As service, which cannot be seen.
 pub fn answered(engine: &dyn Engine, call: Call, file: &[u8]) -> Result<Vec<u8>, u8> {
     let mut out = [0; LEAST_ROOM];
-    match call.by(engine, file, &mut out, &mut Tally::default()).told {
+    match call.by(engine, file, 2, &mut out, &mut Tally::default()).told {
         Told { number: 0, size } => Ok(out[..size].to_vec()),
         Told { number, .. } => Err(number),
     }

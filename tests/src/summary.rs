@@ -3,7 +3,7 @@
 //!   Right       the groups that a right engine or right programs pass; each wrong one must fail one of them
 //!   try_all     everything: the trial against itself, the engine, the programs, and what is wrong, which must fail
 
-use crate::engine::Engine;
+use crate::engine::{Engine, CALL_KINDS};
 use crate::groups::{of_engine, of_programs, of_trial, run, run_programs, EngineGroup, PANIC};
 use crate::judge::Trial;
 use crate::options::Options;
@@ -59,8 +59,8 @@ impl Summary<'_> {
     }
 
     /// Every kind of answer and every refusal was met, in files with CR LF too; isolated cameras, lit pairs, self arcs and look-ups in every
-    /// place; every kind, size and refusal of a printout; every outcome and every refusal of a budget; question 16 by both calls with all
-    /// line ends.
+    /// place; every kind and size of a printout; every outcome of a budget; every refusal of a graph, a stock and a budget; every count of
+    /// every caller; wrong callers; question 16 by both calls with all line ends.
     fn try_coverage(&mut self) {
         let kinds = ["every kind of answer and every refusal was met", "the same on files with CR LF"];
         for (name, missing) in kinds.into_iter().zip(self.seen.never_met()) {
@@ -80,14 +80,24 @@ impl Summary<'_> {
             "printouts of every number of pairs with every number of cameras were met",
             none_missing(&self.seen.never_sized(), "never met (pairs, cameras)"),
         );
-        self.tell(
-            "stocks were refused by every question, alone and with each later one",
-            none_missing(&self.seen.never_refused_stocks(), "never met (first, later)"),
-        );
         self.tell("budgets ended the searches in every way", none_missing(&self.seen.too_few_budgets(), "too few"));
+        for (kind, what) in CALL_KINDS.into_iter().zip(["graphs", "stocks", "budgets"]) {
+            self.tell(
+                &format!("{what} were refused by every question, alone and with each later one"),
+                none_missing(&self.seen.never_refused(kind), "never met (first, later)"),
+            );
+        }
         self.tell(
-            "budgets were refused by every question, alone and with each later one",
-            none_missing(&self.seen.never_refused(), "never met (first, later)"),
+            "each count of each caller rose from every level, by every call that raises it",
+            none_missing(&self.seen.too_few_raised(), "too few (call, caller, count, level)"),
+        );
+        self.tell(
+            "each count rose beside each other one at its largest",
+            none_missing(&self.seen.too_few_beside(), "too few (places of the two)"),
+        );
+        self.tell(
+            "wrong callers of every number made every call",
+            none_missing(&self.seen.never_called(), "never met (call, caller)"),
         );
         self.tell("self arcs were met in every place", none_missing(&self.seen.too_few_self_arcs(), "too few"));
         self.tell(

@@ -1,7 +1,7 @@
 //! What is tried with random files.
 //!   small_graphs .. middling_stocks    random graphs and stocks
 //!   certificates                       right, wrong and random certificates
-//!   single_faults, pairs_of_faults     every question as the first failing one, alone and with each later one
+//!   single_faults, pairs_of_faults     every question as the first failing one, alone and with each later one; 1 and 17 before them
 //!   faults_in_both_files               the check: graph first, then certificate
 //! Where there is a choice, the number of files to try is given. Each file is tried with all line ends.
 
@@ -114,6 +114,7 @@ pub fn certificates(judge: &mut Judge, files: usize) -> Trial {
 fn judge_faulty(judge: &mut Judge, kind: Kind, faults: &[u8]) -> Trial {
     let file = failing(&mut judge.random, kind, faults)?;
     judge.short_buffers(&file)?;
+    judge.wrong_callers(&file)?;
     match kind {
         Kind::Graph => {
             judge.graph_all_ways(&file)?;

@@ -1,19 +1,23 @@
 //! What documents 01 and 02 say of a file that is handed in: by trial of everything where it is small enough, by matchings otherwise.
 //!   GraphTruth, graph_truth    refusal, or the graph and whether it has a path, or else its canonical classes
 //!   StockTruth, stock_truth    refusal, or the stock and its standing
-//!   Owed                       what a call owes: refusal number, the count that rises, and whether an answer is right
-//!   graph_owed, stock_owed
+//!   Owed, Count                what a call owes: refusal number, the count that rises, and whether an answer is right
+//!   graph_owed, stock_owed, refused
 //!   budget_owed                the same of a call with a budget (document 02, L4)
 //!   MOST_SEARCHES, OVER_BUDGET the largest budget, and the question that asks for it
 //!   Numbers, numbers_within    pairs, searches and missing lanes that a budget comes to
+//!   Truth, truth_for, owed     the same of any call that names its caller
+//!   is_caller, WRONG_CALLER    whether a number is a caller's (document 02, L7), and the question that asks for it
+//!   wrong_callers              numbers that are not
+//!   questions_of               the questions put to a call, in the order of documents 01 and 02
 //!   look_up_owed               what the look-up owes, for any fits (document 02, L3)
 
 use crate::arc_matching;
 use crate::blossom;
-use crate::engine::{Fit, Looked};
+use crate::engine::{Call, CallKind, Fit, Looked, CALLERS, OF_EACH};
 use crate::frames::{barrier_file, budget_file, path_file, plan_bytes, plan_file, sheet_file, Text, BARRIER, BUDGET, PATH, PLAN};
-use crate::graph_trial::{self, canonical, is_wanted, mate, Certificate, Graph};
-use crate::stock_trial::{self, is_plan, is_rising_pairing, Standing, Stock};
+use crate::graph_trial::{self, canonical, is_wanted, mate, Certificate, Graph, GRAPH_QUESTIONS};
+use crate::stock_trial::{self, is_plan, is_rising_pairing, Standing, Stock, STOCK_QUESTIONS};
 
 /// Up to these sizes everything is tried.
 const SMALL_NODES: usize = 12;
@@ -55,12 +59,19 @@ pub fn stock_truth(file: &[u8]) -> StockTruth {
     StockTruth::Accepted(stock, standing)
 }
 
-#[derive(Clone, Copy, Debug, PartialEq)]
+#[derive(Clone, Copy, Debug, PartialEq, Eq, PartialOrd, Ord)]
 pub enum Count {
     Paths,
     Barriers,
     Stocks,
     Refusals,
+}
+
+impl Count {
+    /// Where it stands, as a caller's, among all counts of a tally.
+    pub fn place(self, caller: u32) -> usize {
+        OF_EACH * caller as usize + self as usize
+    }
 }
 
 pub type AnswerTest<'a> = Box<dyn Fn(&[u8]) -> bool + 'a>;
@@ -71,7 +82,7 @@ pub struct Owed<'a> {
     pub is_right: AnswerTest<'a>,
 }
 
-fn refused(number: u8) -> Owed<'static> {
+pub fn refused(number: u8) -> Owed<'static> {
     Owed { number, count: Count::Refusals, is_right: Box::new(|_| false) }
 }
 
@@ -110,6 +121,73 @@ pub fn budget_owed(truth: &StockTruth, most: u32) -> Owed<'_> {
         },
     }
 }
+
+/// What is said of a file that is handed to a call.
+pub enum Truth {
+    Graph(GraphTruth),
+    Stock(StockTruth),
+}
+
+pub fn truth_for(call: Call, file: &[u8]) -> Truth {
+    match call {
+        Call::Graph => Truth::Graph(graph_truth(file)),
+        Call::Stock | Call::Budget(_) => Truth::Stock(stock_truth(file)),
+    }
+}
+
+/// Of a file with the truth for that call.
+pub fn owed(call: Call, truth: &Truth) -> Owed<'_> {
+    match (call, truth) {
+        (Call::Budget(most), Truth::Stock(truth)) => budget_owed(truth, most),
+        (_, Truth::Stock(truth)) => stock_owed(truth),
+        (_, Truth::Graph(truth)) => graph_owed(truth),
+    }
+}
+
+// ---- callers
+
+pub const WRONG_CALLER: u8 = 17;
+
+pub fn is_caller(number: u32) -> bool {
+    (number as usize) < CALLERS
+}
+
+/// Wrong ones of more than one byte: such as end in a right one, or in bits of it, and those around two bytes, 31 bits and 32.
+pub const WIDE_CALLERS: [u32; 20] = [
+    256,
+    257,
+    258,
+    259,
+    260,
+    511,
+    512,
+    1_024,
+    32_768,
+    65_535,
+    65_536,
+    65_537,
+    65_539,
+    1 << 24,
+    i32::MAX as u32,
+    1 << 31,
+    (1 << 31) + 3,
+    u32::MAX - 3,
+    u32::MAX - 1,
+    u32::MAX,
+];
+
+/// Every wrong caller of one byte, and some of more.
+pub fn wrong_callers() -> Vec<u32> {
+    (CALLERS as u32..=255).chain(WIDE_CALLERS).collect()
+}
+
+pub fn questions_of(call: CallKind) -> Vec<u8> {
+    let of_file: &[u8] = if call == CallKind::Graph { &GRAPH_QUESTIONS } else { &STOCK_QUESTIONS };
+    let of_budget: &[u8] = if call == CallKind::Budget { &[OVER_BUDGET] } else { &[] };
+    [&[WRONG_CALLER, 1], of_budget, of_file].concat()
+}
+
+// ---- answers
 
 /// What the header of the answer to a budget tells.
 #[derive(Clone, Copy, Debug, PartialEq)]

@@ -4,8 +4,8 @@
 //!   without_blossoms, improve_in_tree    a plan by searches without blossoms; one such search
 //! First those that document 01 shuts out, then its traps, then slips of other kinds (slips.rs), then those in line ends
 //! (wrong_line_ends.rs), in the marks of cameras without a fit (wrong_isolated.rs), in look-ups and question 13 (wrong_look_ups.rs), in
-//! the call that stops after so many searches (wrong_budgets.rs), in question 16 (wrong_self_arcs.rs), and in what a stock gets, a plan
-//! and its sheet in one (wrong_printouts.rs), or in either half of it (wrong_halves.rs).
+//! the call that stops after so many searches (wrong_budgets.rs), in question 16 (wrong_self_arcs.rs), in what a stock gets, a plan
+//! and its sheet in one (wrong_printouts.rs), or in either half of it (wrong_halves.rs), and in callers and their counts (wrong_callers.rs).
 
 use crate::blossom::{augment, neighbours, pairs, partners, Partners};
 use crate::frames::Pair;
@@ -13,7 +13,9 @@ use crate::graph_trial::{canonical, is_barrier, is_wanted, mate, mate_of, Certif
 use crate::reference::{self, GraphAnswer, Parts};
 use crate::slips;
 use crate::stock_trial::{self, Standing, Stock};
-use crate::{wrong_budgets, wrong_halves, wrong_isolated, wrong_line_ends, wrong_look_ups, wrong_printouts, wrong_self_arcs};
+use crate::{
+    wrong_budgets, wrong_callers, wrong_halves, wrong_isolated, wrong_line_ends, wrong_look_ups, wrong_printouts, wrong_self_arcs,
+};
 use std::collections::VecDeque;
 
 pub type Named = (String, Parts);
@@ -31,6 +33,7 @@ pub fn engines() -> Vec<Named> {
     all.extend(wrong_self_arcs::engines());
     all.extend(wrong_printouts::engines());
     all.extend(wrong_halves::engines());
+    all.extend(wrong_callers::engines());
     all
 }
 

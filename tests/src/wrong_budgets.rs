@@ -12,7 +12,7 @@
 //! tally and in the buffer.
 
 use crate::blossom::{augment, enlarge, neighbours, pairs, partners, size, Partners};
-use crate::engine::{Searched, Tally, Told};
+use crate::engine::{Counts, Searched, Told};
 use crate::frames::{budget_file, file, pair_lines, plan_file, Pair, BUDGET, PLAN};
 use crate::line_ends::cr_lf;
 use crate::reference::{self, Parts, Reached};
@@ -53,19 +53,19 @@ fn writing(text: fn(&Reached) -> Vec<u8>) -> Parts {
     Parts { reached_file: text, ..Parts::right() }
 }
 
-fn calling(call: impl Fn(&Parts, &[u8], u32, &mut [u8], &mut Tally) -> Searched + 'static) -> Parts {
+fn calling(call: impl Fn(&Parts, &[u8], u32, &mut [u8], &mut Counts) -> Searched + 'static) -> Parts {
     Parts { budget: Box::new(call), ..Parts::right() }
 }
 
 /// The right call with another number of searches.
 fn granting(granted: fn(u32) -> u32) -> Parts {
-    calling(move |parts, file, most, out, tally| reference::budget(parts, file, granted(most), out, tally))
+    calling(move |parts, file, most, out, counts| reference::budget(parts, file, granted(most), out, counts))
 }
 
 /// The right call, and something done after it where its refusal number, 0 for an answer, is one that is meant.
 fn after(is_meant: fn(u8) -> bool, done: fn(&mut Searched, &mut [u8])) -> Parts {
-    calling(move |parts, file, most, out, tally| {
-        let mut searched = reference::budget(parts, file, most, out, tally);
+    calling(move |parts, file, most, out, counts| {
+        let mut searched = reference::budget(parts, file, most, out, counts);
         if is_meant(searched.told.number) {
             done(&mut searched, out);
         }
@@ -169,8 +169,8 @@ fn cameras_searched_from(stock: &Stock, most: u32) -> usize {
 
 /// The right call with another number of searches in its result, by the number that is granted.
 fn telling(is_meant: fn(u8) -> bool, number: fn(u32, &Searched) -> u64) -> Parts {
-    calling(move |parts, file, most, out, tally| {
-        let searched = reference::budget(parts, file, most, out, tally);
+    calling(move |parts, file, most, out, counts| {
+        let searched = reference::budget(parts, file, most, out, counts);
         let searches = if is_meant(searched.told.number) { number(most, &searched) } else { searched.searches };
         Searched { searches, ..searched }
     })
@@ -593,8 +593,8 @@ fn counting(reached: &Reached, count: String) -> Vec<u8> {
     [without_end(reached), format!("{:02X}{count}\n", BUDGET.end).into_bytes()].concat()
 }
 
-fn plan_numbered(parts: &Parts, file: &[u8], most: u32, out: &mut [u8], tally: &mut Tally) -> Searched {
-    let searched = reference::budget(parts, file, most, out, tally);
+fn plan_numbered(parts: &Parts, file: &[u8], most: u32, out: &mut [u8], counts: &mut Counts) -> Searched {
+    let searched = reference::budget(parts, file, most, out, counts);
     if let (0, Ok(stock)) = (searched.told.number, stock_trial::read(file)) {
         out[2..4].copy_from_slice(format!("{:02X}", greatest(&stock)).as_bytes());
     }
@@ -627,21 +627,21 @@ fn other_budgets() -> Vec<Named> {
 
 /// Question 15 asked otherwise.
 fn asking(granted: fn(u32) -> bool) -> Parts {
-    calling(move |parts, file, most, out, tally| {
+    calling(move |parts, file, most, out, counts| {
         if out.len() >= parts.least_room && !granted(most) {
-            return refused(parts, OVER_BUDGET, out, tally);
+            return refused(parts, OVER_BUDGET, out, counts);
         }
-        reference::budget(parts, file, most.min(MOST_SEARCHES), out, tally)
+        reference::budget(parts, file, most.min(MOST_SEARCHES), out, counts)
     })
 }
 
-fn refused(parts: &Parts, number: u8, out: &mut [u8], tally: &mut Tally) -> Searched {
-    Searched { told: parts.refusal(number, out, tally), searches: 0 }
+fn refused(parts: &Parts, number: u8, out: &mut [u8], counts: &mut Counts) -> Searched {
+    Searched { told: parts.refusal(number, out, counts), searches: 0 }
 }
 
 fn renumbered(number: u8) -> Parts {
-    calling(move |parts, file, most, out, tally| {
-        let searched = reference::budget(parts, file, most, out, tally);
+    calling(move |parts, file, most, out, counts| {
+        let searched = reference::budget(parts, file, most, out, counts);
         match searched.told.number {
             OVER_BUDGET => Searched { told: Told { number, ..searched.told }, ..searched },
             _ => searched,
@@ -656,17 +656,17 @@ fn other_orders() -> Vec<Named> {
     all
 }
 
-fn asked_first(parts: &Parts, file: &[u8], most: u32, out: &mut [u8], tally: &mut Tally) -> Searched {
+fn asked_first(parts: &Parts, file: &[u8], most: u32, out: &mut [u8], counts: &mut Counts) -> Searched {
     if most > MOST_SEARCHES {
-        return refused(parts, OVER_BUDGET, out, tally);
+        return refused(parts, OVER_BUDGET, out, counts);
     }
-    reference::budget(parts, file, most, out, tally)
+    reference::budget(parts, file, most, out, counts)
 }
 
 fn asked_after(question: u8) -> Parts {
-    calling(move |parts, file, most, out, tally| match stock_trial::read(file) {
-        Err(number) if number <= question && out.len() >= parts.least_room => refused(parts, number, out, tally),
-        _ => reference::budget(parts, file, most, out, tally),
+    calling(move |parts, file, most, out, counts| match stock_trial::read(file) {
+        Err(number) if number <= question && out.len() >= parts.least_room => refused(parts, number, out, counts),
+        _ => reference::budget(parts, file, most, out, counts),
     })
 }
 
@@ -677,13 +677,13 @@ pub fn raise(count: &mut u32, times: u32) {
 }
 
 /// The right call, counted otherwise where its refusal number, 0 for an answer, is one that is meant.
-fn counted(is_meant: fn(u8) -> bool, count: fn(&Searched, &mut Tally)) -> Parts {
-    calling(move |parts, file, most, out, tally| {
-        let before = *tally;
-        let searched = reference::budget(parts, file, most, out, tally);
+fn counted(is_meant: fn(u8) -> bool, count: fn(&Searched, &mut Counts)) -> Parts {
+    calling(move |parts, file, most, out, counts| {
+        let before = *counts;
+        let searched = reference::budget(parts, file, most, out, counts);
         if is_meant(searched.told.number) {
-            *tally = before;
-            count(&searched, tally);
+            *counts = before;
+            count(&searched, counts);
         }
         searched
     })
@@ -692,25 +692,28 @@ fn counted(is_meant: fn(u8) -> bool, count: fn(&Searched, &mut Tally)) -> Parts 
 fn other_counts() -> Vec<Named> {
     vec![
         named("refusals by 15 not counted", counted(is_over, |_, _| ())),
-        named("refusals by 15 counted as stocks", counted(is_over, |_, tally| raise(&mut tally.stocks, 1))),
-        named("refusals by 15 counted twice", counted(is_over, |_, tally| raise(&mut tally.refusals, 2))),
+        named("refusals by 15 counted as stocks", counted(is_over, |_, counts| raise(&mut counts.stocks, 1))),
+        named("refusals by 15 counted twice", counted(is_over, |_, counts| raise(&mut counts.refusals, 2))),
         named("refusals by 1 not counted", counted(|number| number == 1, |_, _| ())),
         named("refusals of budgets not counted", counted(is_refusal, |_, _| ())),
         named("answers not counted", counted(is_answer, |_, _| ())),
-        named("answers counted twice", counted(is_answer, |_, tally| raise(&mut tally.stocks, 2))),
-        named("answers counted as paths", counted(is_answer, |_, tally| raise(&mut tally.paths, 1))),
-        named("answers counted as barriers", counted(is_answer, |_, tally| raise(&mut tally.barriers, 1))),
-        named("answers counted as refusals", counted(is_answer, |_, tally| raise(&mut tally.refusals, 1))),
+        named("answers counted twice", counted(is_answer, |_, counts| raise(&mut counts.stocks, 2))),
+        named("answers counted as paths", counted(is_answer, |_, counts| raise(&mut counts.paths, 1))),
+        named("answers counted as barriers", counted(is_answer, |_, counts| raise(&mut counts.barriers, 1))),
+        named("answers counted as refusals", counted(is_answer, |_, counts| raise(&mut counts.refusals, 1))),
         named(
             "each search counted as a stock answer",
-            counted(is_answer, |searched, tally| raise(&mut tally.stocks, searched.searches as u32)),
+            counted(is_answer, |searched, counts| raise(&mut counts.stocks, searched.searches as u32)),
         ),
         named(
             "answers without a search not counted",
-            counted(is_answer, |searched, tally| raise(&mut tally.stocks, searched.searches.min(1) as u32)),
+            counted(is_answer, |searched, counts| raise(&mut counts.stocks, searched.searches.min(1) as u32)),
         ),
-        named("a count of answers that wraps", counted(is_answer, |_, tally| tally.stocks = tally.stocks.wrapping_add(1))),
-        named("a count of refusals that wraps", counted(is_refusal, |_, tally| tally.refusals = tally.refusals.wrapping_add(1))),
+        named("a count of answers that wraps", counted(is_answer, |_, counts| counts.stocks = counts.stocks.wrapping_add(1))),
+        named(
+            "a count of refusals that wraps",
+            counted(is_refusal, |_, counts| counts.refusals = counts.refusals.wrapping_add(1)),
+        ),
     ]
 }
 
@@ -737,7 +740,7 @@ fn other_buffers() -> Vec<Named> {
 
 /// The right call where question 1 asks for other room.
 fn with_room(least_room: usize) -> Parts {
-    calling(move |_, file, most, out, tally| reference::budget(&Parts { least_room, ..Parts::right() }, file, most, out, tally))
+    calling(move |_, file, most, out, counts| reference::budget(&Parts { least_room, ..Parts::right() }, file, most, out, counts))
 }
 
 // ---- calls that remember

@@ -5,10 +5,11 @@
 //!   without_header ..    parts of a half
 //!   placing              the right sheet at another place of the buffer
 //!   calling, after, counted    another call; the right call, and something done after it, or counted otherwise
+//!   put                  bytes at the front of a buffer
 //! First those that put the halves together wrongly, then in frames, places, sizes, the buffer, its room, the tally and refusals, and then
 //! those that remember. Those in which the plan or the sheet itself is another are in wrong_halves.rs.
 
-use crate::engine::{Tally, Told};
+use crate::engine::{Counts, Told};
 use crate::frames::{budget_file, file, halves, pair_lines, plan_file, printout, sheet_file, sheet_in, Pair, CR, PLAN, SHEET};
 use crate::line_ends::cr_lf;
 use crate::reference::{self, Parts};
@@ -43,14 +44,14 @@ fn joining(join: fn(&[u8], &[u8]) -> Vec<u8>) -> Parts {
     printing(move |_, plan, standing| join(&plan_file(plan), &sheet_file(standing.greatest, &standing.marks)))
 }
 
-fn calling(call: impl Fn(&Parts, &[u8], &mut [u8], &mut Tally) -> Told + 'static) -> Parts {
+fn calling(call: impl Fn(&Parts, &[u8], &mut [u8], &mut Counts) -> Told + 'static) -> Parts {
     Parts { stock: Box::new(call), ..Parts::right() }
 }
 
 /// The right call, and something done after it where its refusal number, 0 for an answer, is one that is meant.
 fn after(is_meant: fn(u8) -> bool, done: fn(&mut Told, &mut [u8])) -> Parts {
-    calling(move |parts, file, out, tally| {
-        let mut told = reference::stock(parts, file, out, tally);
+    calling(move |parts, file, out, counts| {
+        let mut told = reference::stock(parts, file, out, counts);
         if is_meant(told.number) {
             done(&mut told, out);
         }
@@ -59,22 +60,22 @@ fn after(is_meant: fn(u8) -> bool, done: fn(&mut Told, &mut [u8])) -> Parts {
 }
 
 /// The right call, counted otherwise.
-fn counted(is_meant: fn(u8) -> bool, count: fn(&[u8], &mut Tally)) -> Parts {
-    calling(move |parts, file, out, tally| {
-        let before = *tally;
-        let told = reference::stock(parts, file, out, tally);
+fn counted(is_meant: fn(u8) -> bool, count: fn(&[u8], &mut Counts)) -> Parts {
+    calling(move |parts, file, out, counts| {
+        let before = *counts;
+        let told = reference::stock(parts, file, out, counts);
         if is_meant(told.number) {
-            *tally = before;
-            count(&out[..told.size], tally);
+            *counts = before;
+            count(&out[..told.size], counts);
         }
         told
     })
 }
 
 /// The right answer apart from the buffer, or the refusal number.
-fn answer_to(parts: &Parts, file: &[u8], room: usize, tally: &mut Tally) -> Result<Vec<u8>, u8> {
+fn answer_to(parts: &Parts, file: &[u8], room: usize, counts: &mut Counts) -> Result<Vec<u8>, u8> {
     let mut out = vec![0; room];
-    match reference::stock(parts, file, &mut out, tally) {
+    match reference::stock(parts, file, &mut out, counts) {
         Told { number: 0, size } => Ok(out[..size].to_vec()),
         Told { number, .. } => Err(number),
     }
@@ -244,7 +245,7 @@ type Place = fn(&Stock, usize, usize) -> (usize, usize);
 
 /// What stands between the halves, or behind the sheet, remains as it was.
 fn placing(place: Place) -> Parts {
-    calling(move |parts, file, out, tally| match answer_to(parts, file, out.len(), tally) {
+    calling(move |parts, file, out, counts| match answer_to(parts, file, out.len(), counts) {
         Err(number) => refused(number),
         Ok(answer) => {
             let (plan, sheet) = halves(&answer);
@@ -286,8 +287,8 @@ fn of_pairs(pairs: usize, sheet: usize) -> (usize, usize) {
 }
 
 /// The sheet is put seven bytes early, and the plan after it.
-fn plan_last(parts: &Parts, file: &[u8], out: &mut [u8], tally: &mut Tally) -> Told {
-    match answer_to(parts, file, out.len(), tally) {
+fn plan_last(parts: &Parts, file: &[u8], out: &mut [u8], counts: &mut Counts) -> Told {
+    match answer_to(parts, file, out.len(), counts) {
         Err(number) => refused(number),
         Ok(answer) => {
             let (plan, sheet) = halves(&answer);
@@ -334,7 +335,7 @@ fn other_sizes() -> Vec<Named> {
 // ---- the buffer
 
 /// Bytes at the front, as far as there is room.
-fn put(out: &mut [u8], bytes: &[u8]) {
+pub fn put(out: &mut [u8], bytes: &[u8]) {
     out.iter_mut().zip(bytes).for_each(|(place, byte)| *place = *byte);
 }
 
@@ -374,8 +375,8 @@ fn copied_behind(told: &mut Told, out: &mut [u8]) {
 }
 
 /// The sheet is written at byte 453 first, and then where it belongs.
-fn drafted(parts: &Parts, file: &[u8], out: &mut [u8], tally: &mut Tally) -> Told {
-    match answer_to(parts, file, out.len(), tally) {
+fn drafted(parts: &Parts, file: &[u8], out: &mut [u8], counts: &mut Counts) -> Told {
+    match answer_to(parts, file, out.len(), counts) {
         Err(number) => refused(number),
         Ok(answer) => {
             let sheet = sheet_in(&answer);
@@ -385,9 +386,9 @@ fn drafted(parts: &Parts, file: &[u8], out: &mut [u8], tally: &mut Tally) -> Tol
     }
 }
 
-fn cut_to_room(parts: &Parts, file: &[u8], out: &mut [u8], tally: &mut Tally) -> Told {
-    let told = reference::stock(parts, file, out, tally);
-    if let (1, Ok(answer)) = (told.number, answer_to(parts, file, parts.least_room, &mut Tally::default())) {
+fn cut_to_room(parts: &Parts, file: &[u8], out: &mut [u8], counts: &mut Counts) -> Told {
+    let told = reference::stock(parts, file, out, counts);
+    if let (1, Ok(answer)) = (told.number, answer_to(parts, file, parts.least_room, &mut Counts::default())) {
         put(out, &answer);
     }
     told
@@ -397,7 +398,7 @@ fn cut_to_room(parts: &Parts, file: &[u8], out: &mut [u8], tally: &mut Tally) ->
 
 /// The right call where question 1 asks for other room.
 fn with_room(least_room: usize) -> Parts {
-    calling(move |_, file, out, tally| reference::stock(&Parts { least_room, ..Parts::right() }, file, out, tally))
+    calling(move |_, file, out, counts| reference::stock(&Parts { least_room, ..Parts::right() }, file, out, counts))
 }
 
 fn other_rooms() -> Vec<Named> {
@@ -416,42 +417,42 @@ fn other_rooms() -> Vec<Named> {
     all
 }
 
-fn no_more_than_asked(parts: &Parts, file: &[u8], out: &mut [u8], tally: &mut Tally) -> Told {
+fn no_more_than_asked(parts: &Parts, file: &[u8], out: &mut [u8], counts: &mut Counts) -> Told {
     if out.len() > parts.least_room {
-        return parts.refusal(1, out, tally);
+        return parts.refusal(1, out, counts);
     }
-    reference::stock(parts, file, out, tally)
+    reference::stock(parts, file, out, counts)
 }
 
 /// Question 1 asked of the answer's own size.
-fn own_room(parts: &Parts, file: &[u8], out: &mut [u8], tally: &mut Tally) -> Told {
-    match answer_to(parts, file, parts.least_room, &mut Tally::default()) {
+fn own_room(parts: &Parts, file: &[u8], out: &mut [u8], counts: &mut Counts) -> Told {
+    match answer_to(parts, file, parts.least_room, &mut Counts::default()) {
         Ok(answer) if answer.len() <= out.len() => {
-            raise(&mut tally.stocks, 1);
+            raise(&mut counts.stocks, 1);
             reference::write(&answer, out)
         }
-        _ => reference::stock(parts, file, out, tally),
+        _ => reference::stock(parts, file, out, counts),
     }
 }
 
-fn own_room_without_cameras(parts: &Parts, file: &[u8], out: &mut [u8], tally: &mut Tally) -> Told {
+fn own_room_without_cameras(parts: &Parts, file: &[u8], out: &mut [u8], counts: &mut Counts) -> Told {
     match stock_trial::read(file) {
-        Ok(stock) if stock.cameras == 0 => own_room(parts, file, out, tally),
-        _ => reference::stock(parts, file, out, tally),
+        Ok(stock) if stock.cameras == 0 => own_room(parts, file, out, counts),
+        _ => reference::stock(parts, file, out, counts),
     }
 }
 
-fn room_for_more(parts: &Parts, file: &[u8], out: &mut [u8], tally: &mut Tally) -> Told {
-    match answer_to(parts, file, parts.least_room, &mut Tally::default()) {
-        Ok(answer) if answer.len() + 1_354 > out.len() => parts.refusal(1, out, tally),
-        _ => reference::stock(parts, file, out, tally),
+fn room_for_more(parts: &Parts, file: &[u8], out: &mut [u8], counts: &mut Counts) -> Told {
+    match answer_to(parts, file, parts.least_room, &mut Counts::default()) {
+        Ok(answer) if answer.len() + 1_354 > out.len() => parts.refusal(1, out, counts),
+        _ => reference::stock(parts, file, out, counts),
     }
 }
 
 fn asked_after(question: u8) -> Parts {
-    calling(move |parts, file, out, tally| match stock_trial::read(file) {
-        Err(number) if number <= question => parts.refusal(number, out, tally),
-        _ => reference::stock(parts, file, out, tally),
+    calling(move |parts, file, out, counts| match stock_trial::read(file) {
+        Err(number) if number <= question => parts.refusal(number, out, counts),
+        _ => reference::stock(parts, file, out, counts),
     })
 }
 
@@ -459,64 +460,70 @@ fn asked_after(question: u8) -> Parts {
 
 fn other_counts() -> Vec<Named> {
     vec![
-        named("two stock answers counted", counted(is_answer, |_, tally| raise(&mut tally.stocks, 2))),
+        named("two stock answers counted", counted(is_answer, |_, counts| raise(&mut counts.stocks, 2))),
         named("no stock answer counted", counted(is_answer, |_, _| ())),
         named(
             "a stock answer and a refusal counted",
-            counted(is_answer, |_, tally| both_raised(&mut tally.stocks, &mut tally.refusals)),
+            counted(is_answer, |_, counts| both_raised(&mut counts.stocks, &mut counts.refusals)),
         ),
         named(
             "a stock answer and a path counted",
-            counted(is_answer, |_, tally| both_raised(&mut tally.stocks, &mut tally.paths)),
+            counted(is_answer, |_, counts| both_raised(&mut counts.stocks, &mut counts.paths)),
         ),
         named(
             "a stock answer and a barrier counted",
-            counted(is_answer, |_, tally| both_raised(&mut tally.stocks, &mut tally.barriers)),
+            counted(is_answer, |_, counts| both_raised(&mut counts.stocks, &mut counts.barriers)),
         ),
-        named("a path counted", counted(is_answer, |_, tally| raise(&mut tally.paths, 1))),
-        named("a barrier counted", counted(is_answer, |_, tally| raise(&mut tally.barriers, 1))),
-        named("a refusal counted for an answer", counted(is_answer, |_, tally| raise(&mut tally.refusals, 1))),
+        named("a path counted", counted(is_answer, |_, counts| raise(&mut counts.paths, 1))),
+        named("a barrier counted", counted(is_answer, |_, counts| raise(&mut counts.barriers, 1))),
+        named("a refusal counted for an answer", counted(is_answer, |_, counts| raise(&mut counts.refusals, 1))),
         named(
             "a stock answer counted for each half that has lines",
-            counted(is_answer, |answer, tally| raise(&mut tally.stocks, filled_halves(answer))),
+            counted(is_answer, |answer, counts| raise(&mut counts.stocks, filled_halves(answer))),
         ),
         named(
             "printouts without a pair not counted",
-            counted(is_answer, |answer, tally| raise(&mut tally.stocks, u32::from(!answer.starts_with(b"5100")))),
+            counted(is_answer, |answer, counts| raise(&mut counts.stocks, u32::from(!answer.starts_with(b"5100")))),
         ),
         named(
             "printouts above 1,024 bytes counted twice",
-            counted(is_answer, |answer, tally| raise(&mut tally.stocks, 1 + answer.len() as u32 / 1_025)),
+            counted(is_answer, |answer, counts| raise(&mut counts.stocks, 1 + answer.len() as u32 / 1_025)),
         ),
-        named("a count of stock answers that wraps", counted(is_answer, |_, tally| tally.stocks = tally.stocks.wrapping_add(1))),
+        named(
+            "a count of stock answers that wraps",
+            counted(is_answer, |_, counts| counts.stocks = counts.stocks.wrapping_add(1)),
+        ),
         named(
             "two stock answers counted and one taken back",
-            counted(is_answer, |_, tally| tally.stocks = tally.stocks.saturating_add(2) - 1),
+            counted(is_answer, |_, counts| counts.stocks = counts.stocks.saturating_add(2) - 1),
         ),
         named(
             "a count of stock answers that stops one early",
-            counted(is_answer, |_, tally| tally.stocks = stopping(tally.stocks, u32::MAX - 1)),
+            counted(is_answer, |_, counts| counts.stocks = stopping(counts.stocks, u32::MAX - 1)),
         ),
         named(
             "a count of stock answers of 31 bits",
-            counted(is_answer, |_, tally| tally.stocks = stopping(tally.stocks, i32::MAX as u32)),
+            counted(is_answer, |_, counts| counts.stocks = stopping(counts.stocks, i32::MAX as u32)),
         ),
         named(
             "the other counts cleared",
-            counted(is_answer, |_, tally| *tally = Tally { stocks: tally.stocks.saturating_add(1), ..Tally::default() }),
+            counted(is_answer, |_, counts| *counts = Counts { stocks: counts.stocks.saturating_add(1), ..Counts::default() }),
         ),
-        named("a refusal counted twice", counted(is_refusal, |_, tally| raise(&mut tally.refusals, 2))),
+        named("a refusal counted twice", counted(is_refusal, |_, counts| raise(&mut counts.refusals, 2))),
         named("a refusal not counted", counted(is_refusal, |_, _| ())),
         named("a refusal by 1 not counted", counted(|number| number == 1, |_, _| ())),
-        named("a refusal counted as a stock answer", counted(is_refusal, |_, tally| raise(&mut tally.stocks, 1))),
+        named("a refusal counted as a stock answer", counted(is_refusal, |_, counts| raise(&mut counts.stocks, 1))),
         named(
             "a refusal by 13 or 14 counted as a stock answer too",
-            counted(|number| number > 12, |_, tally| both_raised(&mut tally.stocks, &mut tally.refusals)),
+            counted(|number| number > 12, |_, counts| both_raised(&mut counts.stocks, &mut counts.refusals)),
         ),
-        named("a count of refusals that wraps", counted(is_refusal, |_, tally| tally.refusals = tally.refusals.wrapping_add(1))),
+        named(
+            "a count of refusals that wraps",
+            counted(is_refusal, |_, counts| counts.refusals = counts.refusals.wrapping_add(1)),
+        ),
         named(
             "a count of refusals that stops one early",
-            counted(is_refusal, |_, tally| tally.refusals = stopping(tally.refusals, u32::MAX - 1)),
+            counted(is_refusal, |_, counts| counts.refusals = stopping(counts.refusals, u32::MAX - 1)),
         ),
     ]
 }
@@ -549,11 +556,11 @@ fn other_refusals() -> Vec<Named> {
         named("stocks that 14 refuses answered with no pair lit", reading(|file| lit_forgotten(file, 13))),
         named(
             "stocks whose printout is above 1,024 bytes refused by 1",
-            calling(|parts, file, out, tally| refusing_above(1_024, parts, file, out, tally)),
+            calling(|parts, file, out, counts| refusing_above(1_024, parts, file, out, counts)),
         ),
         named(
             "stocks whose printout is above 512 bytes refused by 1",
-            calling(|parts, file, out, tally| refusing_above(512, parts, file, out, tally)),
+            calling(|parts, file, out, counts| refusing_above(512, parts, file, out, counts)),
         ),
         named("stocks of 127 cameras refused", reading(|file| refusing(file, 5, |stock| stock.cameras == 127))),
         named("stocks without cameras refused", reading(|file| refusing(file, 5, |stock| stock.cameras == 0))),
@@ -570,8 +577,8 @@ fn other_refusals() -> Vec<Named> {
 
 /// The right call with another reader of stocks, for this call alone.
 fn reading(read: fn(&[u8]) -> Result<Stock, u8>) -> Parts {
-    calling(move |_, file, out, tally| {
-        reference::stock(&Parts { read_stock: Box::new(read), ..Parts::right() }, file, out, tally)
+    calling(move |_, file, out, counts| {
+        reference::stock(&Parts { read_stock: Box::new(read), ..Parts::right() }, file, out, counts)
     })
 }
 
@@ -587,21 +594,21 @@ fn lit_forgotten(file: &[u8], question: u8) -> Result<Stock, u8> {
     }
 }
 
-fn sheet_in_place_of_refusal(parts: &Parts, file: &[u8], out: &mut [u8], tally: &mut Tally) -> Told {
+fn sheet_in_place_of_refusal(parts: &Parts, file: &[u8], out: &mut [u8], counts: &mut Counts) -> Told {
     match (lit_forgotten(file, 11), stock_trial::read(file)) {
         (Ok(stock), Err(_)) if out.len() >= parts.least_room => {
-            raise(&mut tally.stocks, 1);
+            raise(&mut counts.stocks, 1);
             let Standing { greatest, marks } = reference::standing(&stock);
             reference::write(&sheet_file(greatest, &marks), out)
         }
-        _ => reference::stock(parts, file, out, tally),
+        _ => reference::stock(parts, file, out, counts),
     }
 }
 
-fn refusing_above(most: usize, parts: &Parts, file: &[u8], out: &mut [u8], tally: &mut Tally) -> Told {
-    match answer_to(parts, file, parts.least_room, &mut Tally::default()) {
-        Ok(answer) if answer.len() > most => parts.refusal(1, out, tally),
-        _ => reference::stock(parts, file, out, tally),
+fn refusing_above(most: usize, parts: &Parts, file: &[u8], out: &mut [u8], counts: &mut Counts) -> Told {
+    match answer_to(parts, file, parts.least_room, &mut Counts::default()) {
+        Ok(answer) if answer.len() > most => parts.refusal(1, out, counts),
+        _ => reference::stock(parts, file, out, counts),
     }
 }
 
@@ -689,9 +696,9 @@ fn every_second(join: fn(&[u8], &[u8]) -> Vec<u8>) -> impl Fn(&Stock, &[Pair], &
     }
 }
 
-fn short_after_refusal() -> impl Fn(&Parts, &[u8], &mut [u8], &mut Tally) -> Told {
+fn short_after_refusal() -> impl Fn(&Parts, &[u8], &mut [u8], &mut Counts) -> Told {
     let refused_before = Cell::new(false);
-    move |parts, file, out, tally| match answer_to(parts, file, out.len(), tally) {
+    move |parts, file, out, counts| match answer_to(parts, file, out.len(), counts) {
         Err(number) => {
             refused_before.set(true);
             refused(number)
@@ -701,42 +708,42 @@ fn short_after_refusal() -> impl Fn(&Parts, &[u8], &mut [u8], &mut Tally) -> Tol
     }
 }
 
-fn size_before() -> impl Fn(&Parts, &[u8], &mut [u8], &mut Tally) -> Told {
+fn size_before() -> impl Fn(&Parts, &[u8], &mut [u8], &mut Counts) -> Told {
     let last = Cell::new(None);
-    move |parts, file, out, tally| match reference::stock(parts, file, out, tally) {
+    move |parts, file, out, counts| match reference::stock(parts, file, out, counts) {
         Told { number: 0, size } => Told { number: 0, size: last.replace(Some(size)).unwrap_or(size) },
         told => told,
     }
 }
 
-fn every_second_uncounted() -> impl Fn(&Parts, &[u8], &mut [u8], &mut Tally) -> Told {
+fn every_second_uncounted() -> impl Fn(&Parts, &[u8], &mut [u8], &mut Counts) -> Told {
     let second = Cell::new(false);
-    move |parts, file, out, tally| {
-        let before = *tally;
-        let told = reference::stock(parts, file, out, tally);
+    move |parts, file, out, counts| {
+        let before = *counts;
+        let told = reference::stock(parts, file, out, counts);
         if told.number == 0 && second.replace(!second.get()) {
-            *tally = before;
+            *counts = before;
         }
         told
     }
 }
 
 /// Once a room was large enough, a smaller one is taken where it has the answer.
-fn first_room_alone() -> impl Fn(&Parts, &[u8], &mut [u8], &mut Tally) -> Told {
+fn first_room_alone() -> impl Fn(&Parts, &[u8], &mut [u8], &mut Counts) -> Told {
     let asked = Cell::new(false);
-    move |parts, file, out, tally| {
+    move |parts, file, out, counts| {
         if asked.get() {
-            return own_room(parts, file, out, tally);
+            return own_room(parts, file, out, counts);
         }
         asked.set(out.len() >= parts.least_room);
-        reference::stock(parts, file, out, tally)
+        reference::stock(parts, file, out, counts)
     }
 }
 
 /// The first one is where it belongs.
-fn behind_the_one_before() -> impl Fn(&Parts, &[u8], &mut [u8], &mut Tally) -> Told {
+fn behind_the_one_before() -> impl Fn(&Parts, &[u8], &mut [u8], &mut Counts) -> Told {
     let next = Cell::new(0);
-    move |parts, file, out, tally| match answer_to(parts, file, out.len(), tally) {
+    move |parts, file, out, counts| match answer_to(parts, file, out.len(), counts) {
         Err(number) => refused(number),
         Ok(answer) => {
             let start = if next.get() + answer.len() > out.len() { 0 } else { next.get() };

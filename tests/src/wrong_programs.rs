@@ -3,10 +3,9 @@
 //!   all              every one: each slip in each program that can make it, the other programs being right
 //!   manner           that of a program, right or with a slip
 
-use crate::engine::Engine;
+use crate::engine::{Call, Engine};
 use crate::frames::{halves, path_file, plan_file, plan_in, sheet_in, CR, GREATEST_FILE, LF};
 use crate::graph_trial::{is_self_arc, read_in_order, Graph, SELF_ARC};
-use crate::judge::Call;
 use crate::line_ends::{cr_lf, replaced, CR_LF};
 use crate::prints::{refusal_line, BUDGET_PROGRAM, CHECK_PROGRAM, GRAPH_PROGRAM, STOCK_PROGRAM};
 use crate::stand_in::{answered, granted, number_in, read_all, Manner, CERTIFICATE_FILE, GRAPH_FILE, WRONG_STATUS};

@@ -7,7 +7,7 @@
 //! First those that ask other arcs, or for other arcs, then those that tell it otherwise or put it elsewhere, then those that answer, then
 //! those in one of the calls alone, in the tally, in the buffer, in line ends, those that remember, and those in other files.
 
-use crate::engine::{Tally, Told, Verdict};
+use crate::engine::{Counts, Told, Verdict};
 use crate::frames::{Pair, Text, CR, LF};
 use crate::graph_trial::{
     self, is_self_arc, mate, mate_of, read_certificate, read_in_order, Certificate, Graph, GRAPH_QUESTIONS, SELF_ARC,
@@ -282,10 +282,10 @@ fn other_orders() -> Vec<Named> {
     all
 }
 
-fn asked_before_room(parts: &Parts, file: &[u8], out: &mut [u8], tally: &mut Tally) -> Told {
+fn asked_before_room(parts: &Parts, file: &[u8], out: &mut [u8], counts: &mut Counts) -> Told {
     match graph_trial::read(file) {
-        Err(SELF_ARC) => parts.refusal(SELF_ARC, out, tally),
-        _ => reference::answer_graph(parts, file, out, tally),
+        Err(SELF_ARC) => parts.refusal(SELF_ARC, out, counts),
+        _ => reference::answer_graph(parts, file, out, counts),
     }
 }
 
@@ -357,7 +357,7 @@ fn refused_by_answer(file: &[u8], with_path: bool) -> Read {
 
 // ---- one of the two calls
 
-fn calling(call: fn(&Parts, &[u8], &mut [u8], &mut Tally) -> Told) -> Parts {
+fn calling(call: fn(&Parts, &[u8], &mut [u8], &mut Counts) -> Told) -> Parts {
     Parts { answer_graph: Box::new(call), ..Parts::right() }
 }
 
@@ -384,18 +384,18 @@ fn check_unasked(graph: &[u8], certificate: &[u8]) -> Verdict {
     reference::check(&reading(unasked), graph, certificate)
 }
 
-fn call_unasked(_: &Parts, file: &[u8], out: &mut [u8], tally: &mut Tally) -> Told {
-    reference::answer_graph(&reading(unasked), file, out, tally)
+fn call_unasked(_: &Parts, file: &[u8], out: &mut [u8], counts: &mut Counts) -> Told {
+    reference::answer_graph(&reading(unasked), file, out, counts)
 }
 
-fn call_telling_10(_: &Parts, file: &[u8], out: &mut [u8], tally: &mut Tally) -> Told {
-    reference::answer_graph(&numbered(10), file, out, tally)
+fn call_telling_10(_: &Parts, file: &[u8], out: &mut [u8], counts: &mut Counts) -> Told {
+    reference::answer_graph(&numbered(10), file, out, counts)
 }
 
-fn call_unasked_without_entry(parts: &Parts, file: &[u8], out: &mut [u8], tally: &mut Tally) -> Told {
+fn call_unasked_without_entry(parts: &Parts, file: &[u8], out: &mut [u8], counts: &mut Counts) -> Told {
     match unasked(file) {
-        Ok(graph) if !any(&graph, |arc| arc.0 == graph.source) => call_unasked(parts, file, out, tally),
-        _ => reference::answer_graph(parts, file, out, tally),
+        Ok(graph) if !any(&graph, |arc| arc.0 == graph.source) => call_unasked(parts, file, out, counts),
+        _ => reference::answer_graph(parts, file, out, counts),
     }
 }
 
@@ -453,13 +453,13 @@ fn of_path_alone(file: &[u8], certificate: &[u8]) -> Verdict {
 // ---- the tally
 
 /// The right call, counted otherwise where 16 refuses.
-fn counted(count: fn(&mut Tally)) -> Parts {
-    let call = move |parts: &Parts, file: &[u8], out: &mut [u8], tally: &mut Tally| {
-        let before = *tally;
-        let told = reference::answer_graph(parts, file, out, tally);
+fn counted(count: fn(&mut Counts)) -> Parts {
+    let call = move |parts: &Parts, file: &[u8], out: &mut [u8], counts: &mut Counts| {
+        let before = *counts;
+        let told = reference::answer_graph(parts, file, out, counts);
         if told.number == SELF_ARC {
-            *tally = before;
-            count(tally);
+            *counts = before;
+            count(counts);
         }
         told
     };
@@ -469,18 +469,18 @@ fn counted(count: fn(&mut Tally)) -> Parts {
 fn other_counts() -> Vec<Named> {
     vec![
         named("refusals not counted", counted(|_| ())),
-        named("refusals counted twice", counted(|tally| raise(&mut tally.refusals, 2))),
-        named("refusals counted as paths", counted(|tally| raise(&mut tally.paths, 1))),
-        named("refusals counted as barriers", counted(|tally| raise(&mut tally.barriers, 1))),
-        named("refusals counted as stock answers", counted(|tally| raise(&mut tally.stocks, 1))),
+        named("refusals counted twice", counted(|counts| raise(&mut counts.refusals, 2))),
+        named("refusals counted as paths", counted(|counts| raise(&mut counts.paths, 1))),
+        named("refusals counted as barriers", counted(|counts| raise(&mut counts.barriers, 1))),
+        named("refusals counted as stock answers", counted(|counts| raise(&mut counts.stocks, 1))),
         named(
             "refusals counted, and a barrier",
-            counted(|tally| {
-                raise(&mut tally.refusals, 1);
-                raise(&mut tally.barriers, 1);
+            counted(|counts| {
+                raise(&mut counts.refusals, 1);
+                raise(&mut counts.barriers, 1);
             }),
         ),
-        named("a count of refusals that wraps", counted(|tally| tally.refusals = tally.refusals.wrapping_add(1))),
+        named("a count of refusals that wraps", counted(|counts| counts.refusals = counts.refusals.wrapping_add(1))),
     ]
 }
 
@@ -488,8 +488,8 @@ fn other_counts() -> Vec<Named> {
 
 /// The right refusal, and something done to the buffer where it is by 16; the size that is told.
 fn written(write: fn(&mut [u8]) -> usize) -> Parts {
-    let call = move |parts: &Parts, file: &[u8], out: &mut [u8], tally: &mut Tally| {
-        let told = reference::answer_graph(parts, file, out, tally);
+    let call = move |parts: &Parts, file: &[u8], out: &mut [u8], counts: &mut Counts| {
+        let told = reference::answer_graph(parts, file, out, counts);
         match told.number {
             SELF_ARC => Told { size: write(out), ..told },
             _ => told,
@@ -523,8 +523,8 @@ fn put(out: &mut [u8], place: usize, bytes: &[u8]) -> usize {
     0
 }
 
-fn answered_first(parts: &Parts, file: &[u8], out: &mut [u8], tally: &mut Tally) -> Told {
-    let told = reference::answer_graph(parts, file, out, tally);
+fn answered_first(parts: &Parts, file: &[u8], out: &mut [u8], counts: &mut Counts) -> Told {
+    let told = reference::answer_graph(parts, file, out, counts);
     if let (SELF_ARC, Ok(graph)) = (told.number, unasked(file)) {
         reference::write(&reference::answer(&graph).file(), out);
     }

@@ -1,4 +1,5 @@
 -- Limits (document 01, "Questions put to a call"), each with the question that asks for it.
+--   callers          17: sets of counts in a tally; a caller's number is below it
 --   room             1: bytes of an answer's buffer, at least
 --   fileMost         2: bytes of a file
 --   linesMost        lines that a file of so many bytes can have behind a header, each of seven bytes at least
@@ -10,6 +11,9 @@
 --   classMost        9: the highest class
 --   searchesMost     15: searches of a budget, enough for a plan of every stock
 use Prim.Native.Nat.{ℕ}
+
+abbrev pub callers : ℕ
+callers = 4
 
 abbrev pub room : ℕ
 room = 2048

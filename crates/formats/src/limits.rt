@@ -1,4 +1,5 @@
 // Limits (document 01, "Questions put to a call"), each with the question that asks for it.
+//   CALLERS            17: sets of counts in a tally; a caller's number is below it
 //   ROOM               1: bytes of an answer's buffer, at least
 //   FILE_MOST          2: bytes of a file
 //   LINES_MOST         lines that a file of so many bytes can have behind a header, each of seven bytes at least
@@ -9,6 +10,8 @@
 //   STEPS_MOST         8: lines of a path
 //   CLASS_MOST         9: the highest class
 //   SEARCHES_MOST      15: searches of a budget, enough for a plan of every stock
+pub const CALLERS: usize = 4;
+
 pub const ROOM: usize = 2048;
 
 pub const FILE_MOST: usize = 60000;

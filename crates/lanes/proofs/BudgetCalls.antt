@@ -4,8 +4,9 @@
 --   budget-written       and is what is owed of the stock
 --   budget-refused       what a refused call owes
 --   budget-answered      what an answered call owes
---   room-fault, most-fault, file-fault     question 1 is answered no; it is answered yes, and 15 no; both yes, and the others are the file's
+--   most-fault, file-fault     question 15 is answered no; it is answered yes, and the others are the file's
 use mathlib.Core.Path.{_≡_, refl, sym, subst, _∙_}
+use mathlib.Core.Logic.{_≢_}
 use mathlib.Core.Bool.{true, false}
 use mathlib.Core.List.{List}
 use Prim.Native.Nat.{ℕ, _-_, _*_, _/_, _≤_, _<_}
@@ -17,6 +18,7 @@ use Rattle.formats.specs.Limits.{room, searchesMost}
 use Rattle.counting.specs.Tests.{pick}
 use Rattle.counting.specs.Pairs.{pairsOf, zipPairs}
 use Rattle.counting.proofs.Booleans.{true-false}
+use Rattle.frames.specs.Frames.{orElse}
 use Rattle.matching.specs.Stock.{Stock, isPairing}
 use Rattle.matching.specs.Budget.{searchesRun, missing}
 use Rattle.matching.proofs.Plans.{budgeted-parts}
@@ -28,7 +30,7 @@ use Rattle.files.specs.StockFile.{stockFault, budgetText}
 use Rattle.files.specs.Answers.{WrittenFirst}
 use Rattle.files.specs.Readers.{StockHeld}
 use Rattle.files.proofs.AnswerLines.{budget-size}
-use Rattle.lanes.specs.Entry.{budgetFault, budgetTextOf}
+use Rattle.lanes.specs.Entry.{mostFault, budgetFault, budgetTextOf}
 use Rattle.lanes.specs.Calls.{refusedBy, answeredBy}
 use Rattle.lanes.specs.BudgetCalls.{withSearches, BudgetWritten, BudgetAnswered}
 use Rattle.lanes.specs.declared.Answer.{Answer}
@@ -69,19 +71,15 @@ module _ {most n : ℕ} {us vs ls rs xs ys xs′ ys′ : List ℕ} {r : PairsFou
         }
 
 -- THE CALL
-module _ (b : ℕ) (f o : List ℕ) where
-  pub room-fault : length o < room → budgetFault b f o ≡ 1
-  room-fault h = rw (lt-leb _ _ h)
+module _ (b : ℕ) (f : List ℕ) where
+  pub most-fault : searchesMost < b → orElse (mostFault b) (stockFault f) ≡ 15
+  most-fault h = rw (lt-leb _ _ h)
 
-  module _ (large : room ≤ length o) where
-    pub most-fault : searchesMost < b → budgetFault b f o ≡ 15
-    most-fault h = rw (le-leb _ _ large, lt-leb _ _ h)
+  pub file-fault : b ≤ searchesMost → orElse (mostFault b) (stockFault f) ≡ stockFault f
+  file-fault h = rw (le-leb _ _ h)
 
-    pub file-fault : b ≤ searchesMost → budgetFault b f o ≡ stockFault f
-    file-fault h = rw (le-leb _ _ large, le-leb _ _ h)
-
-module _ {b : ℕ} {f o : List ℕ} {r : SearchedAnswer} where
-  pub budget-refused : {n : ℕ} → budgetFault b f o ≡ n → (n ≡ 0 → ⊥) → {a : Answer} → a ≡ refusedBy n → r ≡ withSearches a 0 → BudgetAnswered b f o r o
+module _ {c b : ℕ} {f o : List ℕ} {r : SearchedAnswer} where
+  pub budget-refused : {n : ℕ} → budgetFault c b f (length o) ≡ n → n ≢ 0 → {a : Answer} → a ≡ refusedBy n → r ≡ withSearches a 0 → BudgetAnswered c b f o r o
   budget-refused {n} e some was is =
       let z : eqb n 0 ≡ false = ne-eqb n 0 some in
       record {
@@ -89,9 +87,9 @@ module _ {b : ℕ} {f o : List ℕ} {r : SearchedAnswer} where
         outcome = rw (is, was, e, z);
       }
 
-  pub budget-answered : {us vs xs ys : List ℕ} {n k l : ℕ} → StockHeld f us vs xs ys n k l → budgetFault b f o ≡ 0 → {after : List ℕ} →
-      BudgetWritten b (stockOf n (take k us) (take k vs) (take l xs) (take l ys)) o after r → BudgetAnswered b f o r after
+  pub budget-answered : {us vs xs ys : List ℕ} {n k l : ℕ} → StockHeld f us vs xs ys n k l → budgetFault c b f (length o) ≡ 0 → {after : List ℕ} →
+      BudgetWritten b (stockOf n (take k us) (take k vs) (take l xs) (take l ys)) o after r → BudgetAnswered c b f o r after
   budget-answered {n = n} h e {after} w =
       let v = subst (λ (s : Stock). BudgetWritten b s o after r) (stock-is h n refl) w in
-      let z : eqb (budgetFault b f o) 0 ≡ true = rw e in
+      let z : eqb (budgetFault c b f (length o)) 0 ≡ true = rw e in
       record { owes = (λ y. true-false z y, λ _. (v .pairs, (v .budgeted, v .told, v .leaves))); outcome = rw z (v .outcome) }

@@ -27,28 +27,29 @@ use Rattle.files.specs.Answers.{over}
 use Rattle.files.proofs.AcceptedFiles.{accepted-stock, stock-few}
 use Rattle.files.proofs.AnswerLines.{budget-size}
 use Rattle.files.proofs.BudgetBytes.{budget-header}
-use Rattle.lanes.specs.Entry.{roomFault, mostFault, budgetFault, searched, budgetTextOf, BudgetOwes}
+use Rattle.lanes.specs.Entry.{mostFault, budgetFault, searched, budgetTextOf, BudgetOwes}
+use Rattle.lanes.proofs.CallFaults.{call-none}
 use Rattle.lanes.specs.declared.Searched.{Searched}
 use Rattle.lanes.specs.BudgetPromise.{pairsSaid, searchesSaid, missingSaid, BudgetNumbers, BudgetBounds, BudgetPlans, SameRefusals, SomeBudget}
 
 -- what the questions settle
-asked : (b : ℕ) (f o : List ℕ) → budgetFault b f o ≡ 0 → (b ≤ searchesMost) × (stockFault f ≡ 0)
-asked b f o e =
-    let h = or-none (mostFault b) (stockFault f) (or-none (roomFault o) (orElse (mostFault b) (stockFault f)) e .1) in (
+asked : (c b : ℕ) (f : List ℕ) (n : ℕ) → budgetFault c b f n ≡ 0 → (b ≤ searchesMost) × (stockFault f ≡ 0)
+asked c b f n e =
+    let h = or-none (mostFault b) (stockFault f) (call-none c n (orElse (mostFault b) (stockFault f)) e) in (
       by-test (leb b searchesMost) (λ t. leb-true b searchesMost t) (λ t. let z : _≡_ {A = ℕ} 15 0 = rw t at (h .0) in absurd (omega arith)),
       h .1,
     )
 
 -- AN ACCEPTED FILE
-module _ (b : ℕ) (f o v : List ℕ) (r : Searched) (e : budgetFault b f o ≡ 0) (B : BudgetOwes b f o r v) where
+module _ (c b : ℕ) (f o v : List ℕ) (r : Searched) (e : budgetFault c b f (length o) ≡ 0) (B : BudgetOwes c b f o r v) where
   abbrev s : Stock
   s = stockIn f
 
   few-searches : b ≤ searchesMost
-  few-searches = asked b f o e .0
+  few-searches = asked c b f (length o) e .0
 
   none : stockFault f ≡ 0
-  none = asked b f o e .1
+  none = asked c b f (length o) e .1
 
   abbrev W : WellFormedStock s
   W = accepted-stock f none
@@ -99,9 +100,9 @@ pub budget-bounds : BudgetBounds
 budget-bounds = bounds
 
 pub budget-plans : BudgetPlans
-budget-plans f o v r e B =
+budget-plans c f o v r e B =
     let P = B .1 e in
-    let accepted = asked searchesMost f o e .1 in
+    let accepted = asked c searchesMost f (length o) e .1 in
     let w = accepted-stock f accepted in
     let enough = enough-searches (stockIn f) w (stock-few f accepted) in
     let m = matching.budget-plans (stockIn f) searchesMost (P .0) w enough in
@@ -110,19 +111,17 @@ budget-plans f o v r e B =
 
 -- ALL FILES
 pub same-refusals : SameRefusals
-same-refusals b f o h = rw (le-leb b searchesMost h)
+same-refusals c b f n h = rw (le-leb b searchesMost h)
 
 pub some-budget : SomeBudget
-some-budget b f o =
-    by-test (eqb (budgetFault b f o) 0)
+some-budget c b f o =
+    let n = budgetFault c b f (length o) in
+    by-test (eqb n 0)
     (λ t.
-    let e = eqb-true (budgetFault b f o) 0 t in
-    let q = matching.some-budgeted (stockIn f) b (accepted-stock f (asked b f o e .1)) in
+    let e = eqb-true n 0 t in
+    let q = matching.some-budgeted (stockIn f) b (accepted-stock f (asked c b f (length o) e .1)) in
     let text = budgetTextOf (stockIn f) b (q .0) in (
       searched 0 (length text) (searchesRun (stockIn f) b),
       (over text o, (λ y. true-false t y, λ _. (q .0, (q .1, refl, refl)))),
     ))
-    (λ t. (
-      searched (budgetFault b f o) 0 0,
-      (o, (λ _. (refl, refl), λ y. absurd (eqb-false (budgetFault b f o) 0 t y))),
-    ))
+    (λ t. (searched n 0 0, (o, (λ _. (refl, refl), λ y. absurd (eqb-false n 0 t y)))))

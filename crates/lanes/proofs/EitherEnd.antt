@@ -2,7 +2,7 @@
 --   returns-answered    carriage returns put before line feeds change no answer
 --   returns-checked     nor a verdict
 --   writes-plain        what is written is whole lines, each ended by a line feed alone
-use mathlib.Core.Path.{_≡_}
+use mathlib.Core.Path.{_≡_, ap}
 use mathlib.Core.Bool.{true}
 use mathlib.Core.List.{List, []}
 use Prim.Native.Nat.{ℕ}
@@ -16,6 +16,7 @@ use Rattle.files.specs.SameLines.{SameLines}
 use Rattle.files.proofs.SameLines.{returns-same, too-long}
 use Rattle.files.proofs.AnswerEnds.{path-plain, barrier-plain, plan-plain, sheet-plain, plan-sheet-plain, budget-plain}
 use Rattle.lanes.specs.Entry.{checkPost, verdictLine}
+use Rattle.lanes.specs.Tallies.{Asked, graph, stock, budget, outcomeOf, tallied}
 use Rattle.lanes.specs.declared.Verdict.{Verdict}
 use Rattle.lanes.specs.declared.Verdict.the-variants.{Refused, Yes, No}
 use Rattle.lanes.specs.EitherEnd.{AnsweredAlike, ReturnsAnswered, ReturnsChecked, WritesPlain}
@@ -23,18 +24,21 @@ use Rattle.lanes.specs.EitherEnd.{AnsweredAlike, ReturnsAnswered, Return
 -- THE CALLS
 answered-alike : (f g : List ℕ) → SameLines f g → AnsweredAlike f g
 answered-alike f g s = (
-  λ o v r. rw (s .0, s .1, s .2) (λ x. x, λ x. x),
-  λ o t. rw (s .0, s .1, s .2),
-  λ o v r. rw (s .0, s .1, s .2) (λ x. x, λ x. x),
-  λ o t. rw (s .0, s .1, s .2),
-  λ b o v r. rw (s .0, s .1, s .2) (λ x. x, λ x. x),
-  λ b o t. rw (s .0, s .1, s .2),
+  λ c o v r. rw (s .0, s .1, s .2) (λ x. x, λ x. x),
+  λ c o v r. rw (s .0, s .1, s .2) (λ x. x, λ x. x),
+  λ c b o v r. rw (s .0, s .1, s .2) (λ x. x, λ x. x),
+  λ c a n t. ap (tallied t c) (outcomes-alike c a n),
 )
+  where
+    outcomes-alike : (c : ℕ) (a : Asked) (n : ℕ) → outcomeOf c a f n ≡ outcomeOf c a g n
+    outcomes-alike c graph n = rw (s .0, s .1, s .2)
+    outcomes-alike c stock n = rw (s .0, s .1, s .2)
+    outcomes-alike c (budget b) n = rw (s .0, s .1, s .2)
 
 pub returns-answered : ReturnsAnswered
 returns-answered z f = (
   λ h. answered-alike (withReturns z f) f (returns-same z f h),
-  λ h o. let t = too-long (withReturns z f) h in (rw (t .0), rw (t .1), λ b. rw (t .1)),
+  λ h c n. let t = too-long (withReturns z f) h in (rw (t .0), rw (t .1), λ b. rw (t .1)),
 )
 
 checked-alike : (f g c d : List ℕ) → SameLines f g → SameLines c d → checkPost f c ≡ checkPost g d

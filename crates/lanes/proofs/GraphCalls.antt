@@ -3,15 +3,15 @@
 --   path-found, barrier-found               what the search found
 --   path-small, barrier-small               the answer that is written of it is short
 --   path-written, barrier-written           and is what is owed of the graph
---   room-refused, file-refused              question 1 refuses, or one of the file's
---   read-answered                           none does: what is owed of the graph as it was read
+--   graph-refused, graph-answered           what a refused call owes; what an answered one does, of the graph as it was read
 use mathlib.Core.Path.{_≡_, refl, sym, subst, _∙_}
+use mathlib.Core.Logic.{_≢_}
 use mathlib.Core.Bool.{true, false}
 use mathlib.Core.List.{List, [], _∷_}
 use Prim.Native.Nat.{ℕ, suc, _+_, _*_, _≤_, _<_}
 use native.Mathlib.Omega.{arith}
 use lib.Dec.{eqb}
-use borrow.Author.Tests.{eqb-true, ne-eqb, le-leb, lt-leb}
+use borrow.Author.Tests.{eqb-true, ne-eqb}
 use lib.ListN.{length, take, length-append}
 use lib.Seq.{length-sets, length-take-le}
 use Rattle.formats.specs.Limits.{room}
@@ -25,7 +25,6 @@ use Rattle.search.specs.declared.answer.Answer.the-variants.{Path, NoPath}
 use Rattle.skew.specs.Graph.{Graph, mate, isRegular, isWanted, hasPath, canonical}
 use Rattle.skew.specs.Paths.{WellFormed}
 use Rattle.skew.proofs.Promise.{reaches-by-paths}
-use Rattle.files.specs.GraphFile.{graphIn, graphFault}
 use Rattle.files.specs.CertificateFile.{pathLines, pathText, classLines, barrierText}
 use Rattle.lanes.specs.Entry.{answerFault}
 use Rattle.lanes.specs.Calls.{refusedBy, answeredBy}
@@ -106,32 +105,15 @@ module _ {n s : ℕ} {ts hs : List ℕ} (T : ArcTable n s ts hs) where
         }
 
 -- THE CALL
-module _ (f o : List ℕ) where
-  graph-room : length o < room → answerFault f o ≡ 1
-  graph-room h = rw (lt-leb _ _ h)
-
-  graph-file : room ≤ length o → answerFault f o ≡ graphFault f
-  graph-file h = rw (le-leb _ _ h)
-
-module _ (f o : List ℕ) {r : Answer} where
-  graph-refused : {n : ℕ} → answerFault f o ≡ n → (n ≡ 0 → ⊥) → r ≡ refusedBy n → GraphAnswered f o r o
+module _ {c : ℕ} {f o : List ℕ} {r : Answer} where
+  pub graph-refused : {n : ℕ} → answerFault c f (length o) ≡ n → n ≢ 0 → r ≡ refusedBy n → GraphAnswered c f o r o
   graph-refused {n} e some is =
-      let z : eqb (answerFault f o) 0 ≡ false = rw e (ne-eqb n 0 some) in
-      record { owes = (λ _. (rw (is, z, e), refl), λ q. absurd (some (sym e ∙ q))); outcome = rw (is, z) }
+      let z : eqb n 0 ≡ false = ne-eqb n 0 some in
+      record { owes = (λ _. (rw (is, e, z), refl), λ q. absurd (some (sym e ∙ q))); outcome = rw (is, e, z) }
 
-  graph-answered : {after : List ℕ} → answerFault f o ≡ 0 → GraphWritten (graphIn f) o after r → GraphAnswered f o r after
-  graph-answered e w =
-      let z : eqb (answerFault f o) 0 ≡ true = rw e in
-      record { owes = (λ y. true-false z y, λ _. (w .barrier, w .path)); outcome = rw z (w .outcome) }
-
-  pub room-refused : length o < room → r ≡ refusedBy 1 → GraphAnswered f o r o
-  room-refused h is = graph-refused (graph-room f o h) (λ q. omega arith) is
-
-  pub file-refused : {n : ℕ} → room ≤ length o → n ≡ graphFault f → (n ≡ 0 → ⊥) → r ≡ refusedBy n → GraphAnswered f o r o
-  file-refused h e some is = graph-refused (graph-file f o h ∙ sym e) some is
-
--- of a graph as it was read
-pub read-answered : {f ts hs o after : List ℕ} {pairs source arcs : ℕ} {r : Answer} → GraphHeld f ts hs pairs source arcs → graphFault f ≡ 0 → room ≤ length o →
-    GraphWritten (graphOf pairs source (take arcs ts) (take arcs hs)) o after r → GraphAnswered f o r after
-read-answered {f} {o = o} {after} {r = r} h none l w =
-    graph-answered f o (graph-file f o l ∙ none) (subst (λ (g : Graph). GraphWritten g o after r) (held-graph h) w)
+  pub graph-answered : {ts hs : List ℕ} {pairs source arcs : ℕ} → GraphHeld f ts hs pairs source arcs → answerFault c f (length o) ≡ 0 → {after : List ℕ} →
+      GraphWritten (graphOf pairs source (take arcs ts) (take arcs hs)) o after r → GraphAnswered c f o r after
+  graph-answered h e {after} w =
+      let v = subst (λ (g : Graph). GraphWritten g o after r) (held-graph h) w in
+      let z : eqb (answerFault c f (length o)) 0 ≡ true = rw e in
+      record { owes = (λ y. true-false z y, λ _. (v .barrier, v .path)); outcome = rw z (v .outcome) }

@@ -6,7 +6,9 @@
 --   known-answers     a plan and the sheet behind it
 --   known-budgets     budgets of searches
 --   known-self-arcs   arcs from a node to itself
+--   known-callers     question 17, and calls in a row
 use mathlib.Core.Path.{refl}
+use Rattle.counting.specs.Sums.{sum}
 use Rattle.counting.specs.Tests.{all, any, among, noneTwice, upFrom, keep}
 use Rattle.counting.specs.Pairs.{secondsOf}
 use Rattle.frames.specs.Frames.{linesOf, endsWhole, hexFrom, hexBytes, laterFit, bodiesFit, pairsIn, numbersIn}
@@ -16,7 +18,8 @@ use Rattle.matching.specs.Stock.{hasPair, noneShared, withFirst, allPairings, m
 use Rattle.matching.specs.Budget.{searchOneByOne}
 use Rattle.files.specs.StockFile.{markLines, planLines}
 use Rattle.files.specs.CertificateFile.{classLines, pathLines, namesInOrder}
-use Rattle.lanes.specs.Known.{KnownFiles, KnownTexts, KnownEnds, KnownIsolated, KnownAnswers, KnownBudgets, KnownSelfArcs}
+use Rattle.lanes.specs.Tallies.{afterCalls}
+use Rattle.lanes.specs.Known.{KnownFiles, KnownTexts, KnownEnds, KnownIsolated, KnownAnswers, KnownBudgets, KnownSelfArcs, KnownCallers}
 
 pub known-files : KnownFiles
 unfolding all any among noneTwice upFrom keep nodesAlong isJoined noMates endOf reachesFrom largestOf entriesInto partOnce partBy leastOf classesFrom hasPair noneShared pairsRise linesOf endsWhole hexFrom hexBytes laterFit bodiesFit pairsIn numbersIn matesFit classLines pathLines namesInOrder secondsOf
@@ -66,3 +69,7 @@ known-budgets = (
 pub known-self-arcs : KnownSelfArcs
 unfolding all upFrom linesOf endsWhole hexFrom hexBytes bodiesFit pairsIn matesFit largestOf
 known-self-arcs = (refl, refl, refl, refl, refl, refl, refl, refl, refl, refl, refl, refl, refl, refl)
+
+pub known-callers : KnownCallers
+unfolding all any among noneTwice upFrom keep sum nodesAlong isJoined noMates endOf reachesFrom largestOf entriesInto partOnce partBy leastOf classesFrom hasPair noneShared pairsRise linesOf endsWhole hexFrom hexBytes laterFit bodiesFit pairsIn matesFit afterCalls
+known-callers = (refl, refl, refl, refl, refl, refl, refl, refl, refl, refl, refl, refl, refl, refl, refl)

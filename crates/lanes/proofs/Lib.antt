@@ -8,10 +8,11 @@
 --   EitherEnd        the promises where lines end either way
 --   Checks           the check's answer
 --   SelfArcs         the promises where an arc leads from a node to itself
+--   CallerPromises   the promises of callers, and of the tally over calls in a row
+--   CallFaults       the questions of a call before its file's
 --   GraphCalls       what the graph call answers
 --   StockCalls       what the stock call answers
 --   BudgetCalls      what the budgeted call answers
---   Outcomes         the tally that a call owes, by what the call came to
 --   Forms            the answers of the calls by value, as a proof by hand takes them
 --   Numbers          parameters that are numbers, in a proof by hand
 --   LentBody         the body of a call with its tally lent
@@ -25,10 +26,11 @@ pub mod BudgetPromises
 pub mod EitherEnd
 pub mod Checks
 pub mod SelfArcs
+pub mod CallerPromises
+pub mod CallFaults
 pub mod GraphCalls
 pub mod StockCalls
 pub mod BudgetCalls
-pub mod Outcomes
 pub mod Forms
 pub mod Numbers
 pub mod LentBody

@@ -201,7 +201,7 @@ module _ {M : Type 1} (𝓤 : URA M) (H : Heap 𝓤) (A : Atoms 𝓤) (W : Given
   Way q τ b o back u = wand 𝓤 (H .at q τ b o u) (mean 𝓤 H A (back u))
 
   module _ {i j : Item 𝓤} {q : Share} {τ : Ty} {b o : ℕ} {v : Val} {back : Val → Item 𝓤} where
-    in-left : Part (Go {0}) W i q τ b o v back → Part (Go {0}) W (i ⊛ j) q τ b o v (λ u. back u ⊛ j)
+    pub in-left : Part (Go {0}) W i q τ b o v back → Part (Go {0}) W (i ⊛ j) q τ b o v (λ u. back u ⊛ j)
     in-left p = record {
       out = qed W ((i ⊛ j) ∷ []) ∵ split ! $ use1 W (‵ (fat q τ b o v) ⊛ raw (all 𝓤 (Way q τ b o back))) (p .out) $ split ! $ frame ! $
           each ! (λ (u : Val). wand 𝓤 (H .at q τ b o u) (sep 𝓤 (mean 𝓤 H A (back u)) (mean 𝓤 H A j))) (λ u. assume ! (‵ (fat q τ b o u)) $

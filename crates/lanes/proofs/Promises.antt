@@ -30,9 +30,9 @@ refused {n} z e = (ap (λ (x : Told). x .number) e, ap (λ (x : Told). x .size) 
 
 pub refusals-leave : RefusalsLeave
 refusals-leave = (
-  λ f o v r z h. let q = h .0 z in let e = refused z (q .0) in (e .0, e .1, q .1),
-  λ f o v r z h. let q = h .0 z in let e = refused z (q .0) in (e .0, e .1, q .1),
-  λ b f o v r z h.
+  λ c f o v r z h. let q = h .0 z in let e = refused z (q .0) in (e .0, e .1, q .1),
+  λ c f o v r z h. let q = h .0 z in let e = refused z (q .0) in (e .0, e .1, q .1),
+  λ c b f o v r z h.
       let q = h .0 z in
       let e = refused z (ap (λ (x : Searched). x .told) (q .0)) in
       (e .0, e .1, ap (λ (x : Searched). x .searches) (q .0) ∙ rw z, q .1),

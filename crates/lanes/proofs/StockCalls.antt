@@ -2,15 +2,15 @@
 --   pairs-few, plan-few               a pairing that was handed out has at most 63 pairs; so has a plan
 --   stock-small, stock-written        what is written is short, and is what is owed of the stock
 --   stock-is, cameras-few, stock-table     a file as it was read is its stock; an accepted one is what a search takes
---   room-fault, file-fault            question 1 is answered no; it is answered yes, and the others are the file's
 --   stock-refused, stock-answered     what a refused call owes; what an answered one does
 use mathlib.Core.Path.{_≡_, refl, sym, ap, subst, _∙_}
+use mathlib.Core.Logic.{_≢_}
 use mathlib.Core.Bool.{true, false}
 use mathlib.Core.List.{List, _++_}
-use Prim.Native.Nat.{ℕ, _≤_, _<_}
+use Prim.Native.Nat.{ℕ, _≤_}
 use native.Mathlib.Omega.{arith}
 use lib.Dec.{eqb}
-use borrow.Author.Tests.{ne-eqb, le-leb, lt-leb}
+use borrow.Author.Tests.{ne-eqb}
 use lib.ListN.{length, take}
 use lib.Seq.{length-take-le}
 use Rattle.formats.specs.Limits.{camerasMost, room}
@@ -84,15 +84,8 @@ module _ {f us vs xs ys : List ℕ} {n k l : ℕ} (h : StockHeld f us vs xs ys n
         }
 
 -- THE CALL
-module _ (f o : List ℕ) where
-  pub room-fault : length o < room → stockCallFault f o ≡ 1
-  room-fault h = rw (lt-leb _ _ h)
-
-  pub file-fault : room ≤ length o → stockCallFault f o ≡ stockFault f
-  file-fault h = rw (le-leb _ _ h)
-
-module _ {f o : List ℕ} {r : Answer} where
-  pub stock-refused : {n : ℕ} → stockCallFault f o ≡ n → (n ≡ 0 → ⊥) → r ≡ refusedBy n → StockAnswered f o r o
+module _ {c : ℕ} {f o : List ℕ} {r : Answer} where
+  pub stock-refused : {n : ℕ} → stockCallFault c f (length o) ≡ n → n ≢ 0 → r ≡ refusedBy n → StockAnswered c f o r o
   stock-refused {n} e some is =
       let z : eqb n 0 ≡ false = ne-eqb n 0 some in
       record {
@@ -100,9 +93,9 @@ module _ {f o : List ℕ} {r : Answer} where
         outcome = rw (is, e, z);
       }
 
-  pub stock-answered : {us vs xs ys : List ℕ} {n k l : ℕ} → StockHeld f us vs xs ys n k l → stockCallFault f o ≡ 0 → {m : ℕ} → m ≡ n → {after : List ℕ} →
-      StockWritten (stockOf m (take k us) (take k vs) (take l xs) (take l ys)) o after r → StockAnswered f o r after
+  pub stock-answered : {us vs xs ys : List ℕ} {n k l : ℕ} → StockHeld f us vs xs ys n k l → stockCallFault c f (length o) ≡ 0 → {m : ℕ} → m ≡ n →
+      {after : List ℕ} → StockWritten (stockOf m (take k us) (take k vs) (take l xs) (take l ys)) o after r → StockAnswered c f o r after
   stock-answered h e {m} same {after} w =
       let v = subst (λ (s : Stock). StockWritten s o after r) (stock-is h m same) w in
-      let z : eqb (stockCallFault f o) 0 ≡ true = rw e in
+      let z : eqb (stockCallFault c f (length o)) 0 ≡ true = rw e in
       record { owes = (λ y. true-false z y, λ _. (v .pairs, (v .plan, v .answers))); outcome = rw z (v .outcome) }

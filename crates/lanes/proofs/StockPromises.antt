@@ -1,6 +1,6 @@
 -- The stock call's promises, kept for every file.
 --   sheet-begins, halves-fill, plans-tell, halves-agree     the two halves of its answer
---   stock-counts, some-answer                      what the tally counts; something is owed of everything
+--   some-answer                                    something is owed of everything
 --   sheets-tell, sheets-by-fits                    demand 3, of the sheet half; and what it says of lit pairs
 --   sheet-number-is, sheet-marks-are               and of the number and the marks in a sheet's bytes
 --   same-isolated                                  and of cameras without a fit
@@ -12,14 +12,13 @@ use native.Mathlib.Omega.{arith}
 use lib.Dec.{eqb}
 use lib.ListN.{length, take, drop, length-append, length-map}
 use lib.Seq.{take-append-seam, drop-append-seam}
-use borrow.Author.Tests.{eqb-true, eqb-false, lt-ltb, le-ltb}
+use borrow.Author.Tests.{eqb-true, eqb-false}
 use Rattle.formats.specs.Kinds.{pairKind}
 use Rattle.formats.specs.Limits.{room}
 use Rattle.counting.specs.Lists.{In}
 use Rattle.counting.specs.Pairs.{Pair}
 use Rattle.counting.proofs.Booleans.{and-three, by-test, true-false}
 use Rattle.frames.specs.Frames.{hexAt, bodyLines, pairsIn}
-use Rattle.frames.proofs.Questions.{or-none}
 use Rattle.matching.specs.Stock.{Stock, greatest, markOf, isPlan}
 use Rattle.matching.specs.Matching.{FitsBelow}
 use Rattle.matching.proofs.Matchings.{list-named, list-count}
@@ -29,17 +28,15 @@ use Rattle.matching.proofs.Promises.{well-formed-fits}
 use Rattle.pairing.proofs.Listed.{plan-pairing, plan-greatest}
 use Rattle.files.specs.StockFile.{stockIn, stockFault, sheetText, planText, planAndSheet}
 use Rattle.files.specs.Answers.{over}
-use Rattle.lanes.specs.Entry.{roomFault, told, largest, raised, stockCallFault, sheetOfFile}
+use Rattle.lanes.specs.Entry.{told, stockCallFault, sheetOfFile}
 use Rattle.lanes.specs.declared.Told.{Told}
-use Rattle.lanes.specs.StockPromise.{AnsweredWith, sheetPlace, planHalf, sheetHalf, SheetBegins, HalvesFill, pairsRead, PlansTell, HalvesAgree, CountsOne, StockCounts, SomeAnswer, SheetsTell, SheetsByFits, SheetNumber, SheetMarks, SameIsolated, cameraLine}
+use Rattle.lanes.specs.StockPromise.{AnsweredWith, sheetPlace, planHalf, sheetHalf, SheetBegins, HalvesFill, pairsRead, PlansTell, HalvesAgree, SomeAnswer, SheetsTell, SheetsByFits, SheetNumber, SheetMarks, SameIsolated, cameraLine}
 use Rattle.files.proofs.AcceptedFiles.{accepted-stock, stock-few}
 use Rattle.files.proofs.AnswerLines.{plan-size}
 use Rattle.files.proofs.PlanBytes.{plan-header, pairLine, plan-body, pairs-read}
 use Rattle.files.proofs.SheetBytes.{sheet-found, sheets-alike, alike-sheets, sheet-number, sheet-line}
+use Rattle.lanes.proofs.CallFaults.{call-none}
 use Rattle.lanes.proofs.Promises.{greatest-is}
-
-stock-none : (f o : List ℕ) → stockCallFault f o ≡ 0 → stockFault f ≡ 0
-stock-none f o e = or-none (roomFault o) (stockFault f) e .1
 
 module _ (f : List ℕ) (none : stockFault f ≡ 0) where
   abbrev s : Stock
@@ -75,22 +72,22 @@ two-parts a b o v k size e place long =
 -- the two halves are the plan that was written and the sheet
 module _ (f o v : List ℕ) (r : Told) (A : AnsweredWith f o r v) where
   none : stockFault f ≡ 0
-  none = stock-none f o (A .0)
+  none = call-none (A .0) (length o) (stockFault f) (A .1 .0)
 
   abbrev sheet : List ℕ
   sheet = sheetOfFile f
 
   abbrev ps : List Pair
-  ps = A .1 .1 (A .0) .0
+  ps = A .1 .1 .1 (A .1 .0) .0
 
   abbrev plan : isPlan (stockIn f) ps ≡ true
-  plan = A .1 .1 (A .0) .1 .0
+  plan = A .1 .1 .1 (A .1 .0) .1 .0
 
   abbrev tells : r ≡ told 0 (length (planText ps ++ sheet))
-  tells = A .1 .1 (A .0) .1 .1 .0
+  tells = A .1 .1 .1 (A .1 .0) .1 .1 .0
 
   abbrev leaves : v ≡ over (planText ps ++ sheet) o
-  leaves = A .1 .1 (A .0) .1 .1 .1
+  leaves = A .1 .1 .1 (A .1 .0) .1 .1 .1
 
   begins : sheetPlace (stockIn f .fits) ≡ length (planText ps)
   begins = sym (sheet-begins (stockIn f) ps plan)
@@ -149,25 +146,15 @@ plans-tell f o v r A =
 pub halves-agree : HalvesAgree
 halves-agree = agree
 
-counts-one : (n : ℕ) → CountsOne n (raised true n)
-counts-one n = (λ h. rw (lt-ltb n largest h), λ h. rw (le-ltb n largest (omega arith)))
-
-pub stock-counts : StockCounts
-stock-counts f o t = (
-  refl,
-  refl,
-  λ e. rw e (counts-one (t .stocks), refl),
-  λ z. rw z (refl, counts-one (t .refusals)),
-)
-
 pub some-answer : SomeAnswer
-some-answer f o =
-    by-test (eqb (stockCallFault f o) 0)
+some-answer c f o =
+    let n = stockCallFault c f (length o) in
+    by-test (eqb n 0)
     (λ t.
-    let q = greatest-is f [] (stock-none f o (eqb-true (stockCallFault f o) 0 t)) .2 in
+    let q = greatest-is f [] (call-none c (length o) (stockFault f) (eqb-true n 0 t)) .2 in
     let text = planAndSheet (stockIn f) (q .0) in
     (told 0 (length text), (over text o, (λ y. true-false t y, λ _. (q .0, (q .1, (refl, refl)))))))
-    (λ t. (told (stockCallFault f o) 0, (o, (λ _. (refl, refl), λ y. absurd (eqb-false (stockCallFault f o) 0 t y)))))
+    (λ t. (told n 0, (o, (λ _. (refl, refl), λ y. absurd (eqb-false n 0 t y)))))
 
 -- THE SHEET HALF
 pub sheets-tell : SheetsTell

@@ -26,6 +26,6 @@ pub record BudgetWritten (most : ℕ) (s : Stock) (before after : List ℕ) (r :
   pub leaves : after ≡ over (budgetTextOf s most pairs) before
   pub outcome : r .outcome ≡ outcome.Stock
 
-pub record BudgetAnswered (most : ℕ) (file buffer : List ℕ) (r : SearchedAnswer) (after : List ℕ) : Type 0 where
-  pub owes : BudgetOwes most file buffer (r .searched) after
-  pub outcome : r .outcome ≡ budgetOutcome most file buffer
+pub record BudgetAnswered (caller most : ℕ) (file buffer : List ℕ) (r : SearchedAnswer) (after : List ℕ) : Type 0 where
+  pub owes : BudgetOwes caller most file buffer (r .searched) after
+  pub outcome : r .outcome ≡ budgetOutcome caller most file (length buffer)

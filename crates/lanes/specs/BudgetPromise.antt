@@ -5,7 +5,7 @@
 --   BudgetBounds       the greatest number of pairs is at most PP plus MM
 --   BudgetPlans        with as many searches as question 15 allows it is a plan, and MM is 0
 --   SameRefusals       a budget that passes 15 is refused where the stock call is, with the same number
---   SomeBudget         the call can answer: something is owed of every file, budget and buffer
+--   SomeBudget         the call can answer: something is owed of every caller, file, budget and buffer
 use mathlib.Core.Path.{_≡_}
 use mathlib.Core.Bool.{true}
 use mathlib.Core.List.{List}
@@ -32,24 +32,24 @@ missingSaid v = hexAt 6 2 v
 
 abbrev pub BudgetNumbers : Type 0
 BudgetNumbers =
-    (b : ℕ) (f o v : List ℕ) (r : Searched) → budgetFault b f o ≡ 0 → BudgetOwes b f o r v →
+    (c b : ℕ) (f o v : List ℕ) (r : Searched) → budgetFault c b f (length o) ≡ 0 → BudgetOwes c b f o r v →
     (pairsSaid v ≡ length (stockIn f .lit) + gained (stockIn f) b) × (searchesSaid v ≡ searchesRun (stockIn f) b) ×
     (missingSaid v ≡ missing (stockIn f) b (pairsSaid v)) × (r .searches ≡ searchesSaid v) × (r .told .size ≡ 16 + 7 * pairsSaid v)
 
 abbrev pub BudgetBounds : Type 0
 BudgetBounds =
-    (b : ℕ) (f o v : List ℕ) (r : Searched) → budgetFault b f o ≡ 0 → BudgetOwes b f o r v →
+    (c b : ℕ) (f o v : List ℕ) (r : Searched) → budgetFault c b f (length o) ≡ 0 → BudgetOwes c b f o r v →
     greatest (stockIn f .fits) ≤ pairsSaid v + missingSaid v
 
 abbrev pub BudgetPlans : Type 0
 BudgetPlans =
-    (f o v : List ℕ) (r : Searched) → budgetFault searchesMost f o ≡ 0 → BudgetOwes searchesMost f o r v →
+    (c : ℕ) (f o v : List ℕ) (r : Searched) → budgetFault c searchesMost f (length o) ≡ 0 → BudgetOwes c searchesMost f o r v →
     (ps : List Pair) ×
     ((isPlan (stockIn f) ps ≡ true) × (r ≡ searched 0 (length (budgetText (suc (gain (stockIn f))) 0 ps)) (suc (gain (stockIn f)))) ×
     (v ≡ over (budgetText (suc (gain (stockIn f))) 0 ps) o))
 
 abbrev pub SameRefusals : Type 0
-SameRefusals = (b : ℕ) (f o : List ℕ) → b ≤ searchesMost → budgetFault b f o ≡ stockCallFault f o
+SameRefusals = (c b : ℕ) (f : List ℕ) (n : ℕ) → b ≤ searchesMost → budgetFault c b f n ≡ stockCallFault c f n
 
 abbrev pub SomeBudget : Type 0
-SomeBudget = (b : ℕ) (f o : List ℕ) → (r : Searched) × ((v : List ℕ) × BudgetOwes b f o r v)
+SomeBudget = (c b : ℕ) (f o : List ℕ) → (r : Searched) × ((v : List ℕ) × BudgetOwes c b f o r v)

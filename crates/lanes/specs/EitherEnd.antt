@@ -18,7 +18,8 @@ use Rattle.matching.specs.Stock.{Stock}
 use Rattle.files.specs.GraphFile.{graphFault}
 use Rattle.files.specs.StockFile.{sheetText, planText, planAndSheet, budgetText}
 use Rattle.files.specs.CertificateFile.{pathText, barrierText}
-use Rattle.lanes.specs.Entry.{roomFault, answerFault, GraphOwes, graphTally, checkFault, checkPost, stockCallFault, StockOwes, stockTally, mostFault, budgetFault, BudgetOwes, budgetTally, refusalLine, verdictLine}
+use Rattle.lanes.specs.Entry.{callFault, answerFault, GraphOwes, checkFault, checkPost, stockCallFault, StockOwes, mostFault, budgetFault, BudgetOwes, refusalLine, verdictLine}
+use Rattle.lanes.specs.Tallies.{Asked, call, tallyAfter}
 use Rattle.lanes.specs.declared.Tally.{Tally}
 use Rattle.lanes.specs.declared.Told.{Told}
 use Rattle.lanes.specs.declared.Searched.{Searched}
@@ -27,21 +28,19 @@ use Rattle.lanes.specs.declared.Verdict.{Verdict}
 -- THE CALLS
 abbrev pub AnsweredAlike : (one other : List ℕ) → Type 0
 AnsweredAlike f g =
-    ((o v : List ℕ) (r : Told) → GraphOwes f o r v ↔ GraphOwes g o r v) ×
-    ((o : List ℕ) (t : Tally) → graphTally f o t ≡ graphTally g o t) ×
-    ((o v : List ℕ) (r : Told) → StockOwes f o r v ↔ StockOwes g o r v) ×
-    ((o : List ℕ) (t : Tally) → stockTally f o t ≡ stockTally g o t) ×
-    ((b : ℕ) (o v : List ℕ) (r : Searched) → BudgetOwes b f o r v ↔ BudgetOwes b g o r v) ×
-    ((b : ℕ) (o : List ℕ) (t : Tally) → budgetTally b f o t ≡ budgetTally b g o t)
+    ((c : ℕ) (o v : List ℕ) (r : Told) → GraphOwes c f o r v ↔ GraphOwes c g o r v) ×
+    ((c : ℕ) (o v : List ℕ) (r : Told) → StockOwes c f o r v ↔ StockOwes c g o r v) ×
+    ((c b : ℕ) (o v : List ℕ) (r : Searched) → BudgetOwes c b f o r v ↔ BudgetOwes c b g o r v) ×
+    ((c : ℕ) (a : Asked) (n : ℕ) (t : Tally) → tallyAfter t (call c a f n) ≡ tallyAfter t (call c a g n))
 
 abbrev pub ReturnsAnswered : Type 0
 ReturnsAnswered =
     (chosen : ℕ → Bool) (f : List ℕ) →
     (length (withReturns chosen f) ≤ fileMost → AnsweredAlike (withReturns chosen f) f) ×
     (fileMost < length (withReturns chosen f) →
-    (o : List ℕ) →
-    (answerFault (withReturns chosen f) o ≡ orElse (roomFault o) 2) × (stockCallFault (withReturns chosen f) o ≡ orElse (roomFault o) 2) ×
-    ((b : ℕ) → budgetFault b (withReturns chosen f) o ≡ orElse (roomFault o) (orElse (mostFault b) 2)))
+    (c n : ℕ) →
+    (answerFault c (withReturns chosen f) n ≡ callFault c n 2) × (stockCallFault c (withReturns chosen f) n ≡ callFault c n 2) ×
+    ((b : ℕ) → budgetFault c b (withReturns chosen f) n ≡ callFault c n (orElse (mostFault b) 2)))
 
 -- THE CHECK, with a choice for each of its files
 abbrev pub ReturnsChecked : Type 0

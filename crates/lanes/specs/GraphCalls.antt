@@ -6,6 +6,7 @@ use mathlib.Core.Path.{_≡_}
 use mathlib.Core.Bool.{true, false}
 use mathlib.Core.List.{List}
 use Prim.Native.Nat.{ℕ}
+use lib.ListN.{length}
 use Rattle.counting.specs.Tests.{pick}
 use Rattle.skew.specs.Graph.{Graph, isWanted, hasPath, canonical}
 use Rattle.files.specs.CertificateFile.{pathText, barrierText}
@@ -18,6 +19,6 @@ pub record GraphWritten (g : Graph) (before after : List ℕ) (r : Answer) : Typ
   pub barrier : hasPath g ≡ false → Answers (barrierText (canonical g)) before (r .told) after
   pub outcome : r .outcome ≡ pick (hasPath g) Path Barrier
 
-pub record GraphAnswered (file buffer : List ℕ) (r : Answer) (after : List ℕ) : Type 0 where
-  pub owes : GraphOwes file buffer (r .told) after
-  pub outcome : r .outcome ≡ graphOutcome file buffer
+pub record GraphAnswered (caller : ℕ) (file buffer : List ℕ) (r : Answer) (after : List ℕ) : Type 0 where
+  pub owes : GraphOwes caller file buffer (r .told) after
+  pub outcome : r .outcome ≡ graphOutcome caller file (length buffer)

@@ -15,6 +15,9 @@
 --   Budgets                           a pairing is one that so many searches may come to, with these numbers in the header
 --   KnownBudgets                      S5's answers to budgets of 0, 1, 2 and 64 searches, and edges
 --   KnownSelfArcs                     question 16, with those before and after it, and in the check; an arc to a node's mate
+--   counting p b s r                  a caller's counts: paths, barriers, stocks, refusals
+--   someCalls, afterThem              calls of several callers, a check and wrong callers among them; the tally that they leave
+--   KnownCallers                      question 17 before 1 and 15; those calls, one caller's own among them, and their sum; counts at their largest
 use mathlib.Core.Path.{_≡_}
 use mathlib.Core.Bool.{true, false}
 use mathlib.Core.List.{List, [], _∷_, _++_}
@@ -31,9 +34,14 @@ use Rattle.matching.specs.Budget.{gain, isBudgeted, searchOneByOne}
 use Rattle.files.specs.GraphFile.{graphIn, graphFault, basicGraphFault}
 use Rattle.files.specs.StockFile.{stockIn, stockFault, planLines, planText, planAndSheet, sheetText}
 use Rattle.files.specs.CertificateFile.{pathText, barrierText}
-use Rattle.lanes.specs.Entry.{sheetOfFile, checkPost, mostFault, budgetFault, budgetTextOf}
+use Rattle.lanes.specs.Entry.{sheetOfFile, checkPost, answerFault, stockCallFault, mostFault, budgetFault, budgetTextOf}
+use Rattle.lanes.specs.Tallies.{Call, call, check, graph, stock, budget, outcomeOf, tallied, afterCalls}
 use Rattle.lanes.specs.Promise.{arc, graphOf, g4, g5}
 use Rattle.lanes.specs.StockPromise.{sheetPlace, pairsRead}
+use Rattle.lanes.specs.CallerPromise.{ownCalls, totalOf, countedCalls, zeros}
+use Rattle.lanes.specs.declared.Counts.{Counts}
+use Rattle.lanes.specs.declared.Tally.{Tally}
+use Rattle.lanes.specs.declared.Outcome.the-variants.{Path, Barrier}
 use Rattle.lanes.specs.declared.Verdict.the-variants.{Refused, Yes, No}
 
 abbrev pub arcLines : List Pair → List ℕ
@@ -179,7 +187,7 @@ KnownBudgets =
     Budgets (oneFit 5) 0 [] 0 2 × Budgets (oneFit 5) 1 (arc 0 1 ∷ []) 1 1 × Budgets (oneFit 5) 2 (arc 0 1 ∷ []) 2 0 ×
     Budgets (oneFit 3) 1 (arc 0 1 ∷ []) 1 0 × Budgets noCameras 0 [] 0 0 × Budgets noCameras 1 [] 1 0 × Budgets noCameras 64 [] 1 0 ×
     (searchOneByOne 64 (gain s5) ≡ record { searches = 2; found = 1; none = true }) × (mostFault 64 ≡ 0) × (mostFault 65 ≡ 15) ×
-    (budgetFault 65 s5File [] ≡ 1) × (orElse (mostFault 65) (stockFault []) ≡ 15) × (orElse (mostFault 64) (stockFault []) ≡ 4)
+    (budgetFault 0 65 s5File 0 ≡ 1) × (orElse (mostFault 65) (stockFault []) ≡ 15) × (orElse (mostFault 64) (stockFault []) ≡ 4)
 
 -- ARCS FROM A NODE TO ITSELF (document 02, L5)
 -- at node 0 and, mated, at its mate; then with a wrong mate behind it, before it, and a node that is not there beside it or in it; one alone, and so an odd
@@ -195,3 +203,32 @@ KnownSelfArcs =
     (graphFault (graphFileOf 2 (arc 0 2 ∷ arc 1 3 ∷ [])) ≡ 10) × (checkPost (graphFileOf 1 (arc 0 0 ∷ arc 1 1 ∷ [])) [] ≡ Refused 16) ×
     (checkPost (graphFileOf 1 (arc 0 0 ∷ arc 1 1 ∷ [])) (barrierText (1 ∷ 2 ∷ [])) ≡ Refused 16) ×
     (isBarrier (graphOf 1 (arc 0 0 ∷ arc 1 1 ∷ [])) (1 ∷ 2 ∷ []) ≡ true)
+
+-- CALLERS (document 02, L7)
+abbrev pub counting : (paths barriers stocks refusals : ℕ) → Counts
+counting p b s r = record { paths = p; barriers = b; stocks = s; refusals = r }
+
+-- service's stock; the foreman's graph without a path, and one with a path; a stock of a caller 4, and of one that the last byte would take for 0; a check;
+-- service's budget of 65 searches; an empty file and no room, from stores
+abbrev pub someCalls : List Call
+someCalls =
+    call 2 stock s5File 2048 ∷ call 0 graph g1File 2048 ∷ call 0 graph g5File 2048 ∷ call 4 stock s5File 2048 ∷ call 256 stock s5File 2048 ∷
+    check g1File [] ∷ call 2 (budget 65) s5File 2048 ∷ call 3 stock [] 0 ∷ []
+
+abbrev pub afterThem : Tally
+afterThem = record { sets = counting 1 1 0 0 ∷ counting 0 0 0 0 ∷ counting 0 0 1 1 ∷ counting 0 0 0 1 ∷ [] }
+
+-- at its largest a count of the grader stays, and one below is raised, whatever stands beside it
+abbrev pub full : Tally
+full = record { sets = counting 0 4294967295 7 0 ∷ counting 4294967295 4294967294 0 5 ∷ counting 1 2 3 4 ∷ counting 0 0 0 4294967295 ∷ [] }
+
+abbrev pub fullAfter : (barriers : ℕ) → Tally
+fullAfter n = record { sets = counting 0 4294967295 7 0 ∷ counting 4294967295 n 0 5 ∷ counting 1 2 3 4 ∷ counting 0 0 0 4294967295 ∷ [] }
+
+abbrev pub KnownCallers : Type 0
+KnownCallers =
+    (budgetFault 4 65 [] 0 ≡ 17) × (budgetFault 3 65 [] 0 ≡ 1) × (budgetFault 3 65 [] 2048 ≡ 15) × (budgetFault 3 64 [] 2048 ≡ 4) ×
+    (answerFault 255 g1File 2048 ≡ 17) × (stockCallFault 4 s5File 2047 ≡ 17) × (stockCallFault 0 s5File 2047 ≡ 1) × (answerFault 3 g1File 2048 ≡ 0) ×
+    (afterCalls outcomeOf zeros someCalls ≡ afterThem) ×
+    (ownCalls 2 someCalls ≡ call 2 stock s5File 2048 ∷ call 2 (budget 65) s5File 2048 ∷ []) × (countedCalls someCalls ≡ 5) × (totalOf afterThem ≡ 5) ×
+    (tallied full 1 Path ≡ full) × (tallied full 1 Barrier ≡ fullAfter 4294967295) × (tallied (fullAfter 4294967295) 1 Barrier ≡ fullAfter 4294967295)

@@ -1,5 +1,6 @@
 -- What the calls' contracts and the promises cite.
---   Entry              what each call answers and leaves: result, buffer, what it comes to, and the tally
+--   Entry              what each call answers and leaves: result and buffer, and what it comes to
+--   Tallies            the tally, and what calls in a row do to it
 --   Verdicts           the check's answer, part by part
 --   Calls              a refused call by value, and an answered one
 --   GraphCalls         what the graph call answers by value
@@ -11,8 +12,10 @@
 --   BudgetPromise      what is promised of the budgeted call
 --   EitherEnd          what is promised where lines end either way
 --   SelfArcs           what is promised where an arc leads from a node to itself
+--   CallerPromise      what is promised of callers, and of the tally over calls in a row
 --   Known              known graphs and stocks as files, byte for byte
 pub mod Entry
+pub mod Tallies
 pub mod Verdicts
 pub mod Calls
 pub mod GraphCalls
@@ -24,4 +27,5 @@ pub mod BytePromise
 pub mod BudgetPromise
 pub mod EitherEnd
 pub mod SelfArcs
+pub mod CallerPromise
 pub mod Known

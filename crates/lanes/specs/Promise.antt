@@ -33,12 +33,12 @@ use Rattle.lanes.specs.declared.Searched.{Searched}
 -- DEMAND 1
 abbrev pub RefusalsLeave : Type 0
 RefusalsLeave =
-    ((f o v : List ℕ) (r : Told) → eqb (answerFault f o) 0 ≡ false → GraphOwes f o r v →
-    (r .number ≡ answerFault f o) × (r .size ≡ 0) × (v ≡ o)) ×
-    ((f o v : List ℕ) (r : Told) → eqb (stockCallFault f o) 0 ≡ false → StockOwes f o r v →
-    (r .number ≡ stockCallFault f o) × (r .size ≡ 0) × (v ≡ o)) ×
-    ((b : ℕ) (f o v : List ℕ) (r : Searched) → eqb (budgetFault b f o) 0 ≡ false → BudgetOwes b f o r v →
-    (r .told .number ≡ budgetFault b f o) × (r .told .size ≡ 0) × (r .searches ≡ 0) × (v ≡ o))
+    ((c : ℕ) (f o v : List ℕ) (r : Told) → eqb (answerFault c f (length o)) 0 ≡ false → GraphOwes c f o r v →
+    (r .number ≡ answerFault c f (length o)) × (r .size ≡ 0) × (v ≡ o)) ×
+    ((c : ℕ) (f o v : List ℕ) (r : Told) → eqb (stockCallFault c f (length o)) 0 ≡ false → StockOwes c f o r v →
+    (r .number ≡ stockCallFault c f (length o)) × (r .size ≡ 0) × (v ≡ o)) ×
+    ((c b : ℕ) (f o v : List ℕ) (r : Searched) → eqb (budgetFault c b f (length o)) 0 ≡ false → BudgetOwes c b f o r v →
+    (r .told .number ≡ budgetFault c b f (length o)) × (r .told .size ≡ 0) × (r .searches ≡ 0) × (v ≡ o))
 
 -- DEMAND 2
 abbrev pub ReachesByPaths : Type 0

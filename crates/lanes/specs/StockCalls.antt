@@ -5,6 +5,7 @@ use mathlib.Core.Path.{_≡_}
 use mathlib.Core.Bool.{true}
 use mathlib.Core.List.{List}
 use Prim.Native.Nat.{ℕ}
+use lib.ListN.{length}
 use Rattle.counting.specs.Pairs.{Pair}
 use Rattle.matching.specs.Stock.{Stock, isPlan}
 use Rattle.files.specs.StockFile.{planAndSheet}
@@ -18,6 +19,6 @@ pub record StockWritten (s : Stock) (before after : List ℕ) (r : Answer) : Typ
   pub answers : Answers (planAndSheet s pairs) before (r .told) after
   pub outcome : r .outcome ≡ outcome.Stock
 
-pub record StockAnswered (file buffer : List ℕ) (r : Answer) (after : List ℕ) : Type 0 where
-  pub owes : StockOwes file buffer (r .told) after
-  pub outcome : r .outcome ≡ stockOutcome file buffer
+pub record StockAnswered (caller : ℕ) (file buffer : List ℕ) (r : Answer) (after : List ℕ) : Type 0 where
+  pub owes : StockOwes caller file buffer (r .told) after
+  pub outcome : r .outcome ≡ stockOutcome caller file (length buffer)

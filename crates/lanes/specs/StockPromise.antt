@@ -1,6 +1,6 @@
 -- What is promised of the stock call (document 01, "Stocks"; document 02, L6), read off the bytes that it left: a plan, directly followed by the standing
 -- sheet. SheetsTell is document 03's, of the sheet half, without its premise that a file's elements are bytes (BytePromise); the others are added.
---   AnsweredWith f o r v     the stock call answers f in the buffer o, tells r and leaves v
+--   AnsweredWith f o r v     the stock call answers f in the buffer o for some caller, tells r and leaves v
 --   sheetPlace fs            where the sheet half begins, by the fits alone
 --   planHalf f v, sheetHalf f r v, pairsRead t     the two halves of an answer; the pairs that a plan's lines say
 --   cameraLine u             where camera u's line begins in a sheet
@@ -8,20 +8,18 @@
 --   HalvesFill        the answer is the two halves and no more; its size, by cameras and fits alone, is at most 1,354 bytes, within the room
 --   PlansTell         demand 2: the pairs that the plan half's lines say are a plan, and the half is that plan as it is written
 --   HalvesAgree       demand 3: the plan half's number, and how many lines it has, is the sheet half's, and tells where that begins
---   CountsOne n m     a count n, counted up, is m; one at 4,294,967,295 remains
---   StockCounts       the call counts one stock answer, or one refusal, and nothing else
---   SomeAnswer        the call can answer: something is owed of every file and buffer
+--   SomeAnswer        the call can answer: something is owed of every caller, file and buffer
 --   SheetsTell        demand 3: sheets are alike exactly when cameras, greatest number and every mark are; each is the sheet defined
---   SheetsByFits      demand 3: the same cameras and fits get the same sheet at the same place, whichever pairs are lit and whatever stood in the buffers
+--   SheetsByFits      demand 3: the same cameras and fits get the same sheet at the same place, whichever pairs are lit, whoever called and
+--                     whatever stood in the buffers
 --   SheetNumber       demand 3: the number in a sheet's bytes is the length of some pairing of the fits, and none is longer
 --   SheetMarks        demand 3: camera u's line in a sheet's bytes begins at cameraLine u, and has u and its mark
 --   SameIsolated      two sheets of the same bytes are of stocks in which the same cameras have no fit
 use mathlib.Core.Path.{_≡_}
 use mathlib.Core.Logic.{_↔_}
-use mathlib.Core.Bool.{true, false}
+use mathlib.Core.Bool.{true}
 use mathlib.Core.List.{List, _++_}
-use Prim.Native.Nat.{ℕ, suc, _+_, _*_, _≤_, _<_}
-use lib.Dec.{eqb}
+use Prim.Native.Nat.{ℕ, _+_, _*_, _≤_, _<_}
 use lib.ListN.{length, take, drop}
 use Rattle.formats.specs.Kinds.{pairKind}
 use Rattle.formats.specs.Limits.{room}
@@ -31,12 +29,11 @@ use Rattle.matching.specs.Promise.{HasFit}
 use Rattle.matching.specs.Stock.{Stock, isPairing, greatest, markOf, isPlan}
 use Rattle.files.specs.StockFile.{stockIn, alike, planText}
 use Rattle.files.specs.Answers.{over}
-use Rattle.lanes.specs.Entry.{sheetOfFile, stockCallFault, StockOwes, stockTally}
-use Rattle.lanes.specs.declared.Tally.{Tally}
+use Rattle.lanes.specs.Entry.{sheetOfFile, stockCallFault, StockOwes}
 use Rattle.lanes.specs.declared.Told.{Told}
 
 abbrev pub AnsweredWith : (file buffer : List ℕ) → (answer : Told) → (after : List ℕ) → Type 0
-AnsweredWith f o r v = (stockCallFault f o ≡ 0) × StockOwes f o r v
+AnsweredWith f o r v = (c : ℕ) × ((stockCallFault c f (length o) ≡ 0) × StockOwes c f o r v)
 
 -- where the sheet half begins: behind a plan's header of 5 bytes, a line of 7 for each pair, and its end of 7
 abbrev pub sheetPlace : (fits : List Pair) → ℕ
@@ -73,19 +70,8 @@ HalvesAgree =
     (hexAt 2 2 v ≡ hexAt 2 2 (sheetHalf f r v)) × (length (bodyLines (planHalf f v)) ≡ hexAt 2 2 (sheetHalf f r v)) ×
     (sheetPlace (stockIn f .fits) ≡ 12 + 7 * hexAt 2 2 v)
 
--- THE TALLY: one more, below a count's largest value
-abbrev pub CountsOne : (before after : ℕ) → Type 0
-CountsOne n m = (n < 4294967295 → m ≡ suc n) × (n ≡ 4294967295 → m ≡ n)
-
-abbrev pub StockCounts : Type 0
-StockCounts =
-    (f o : List ℕ) (t : Tally) →
-    (stockTally f o t .paths ≡ t .paths) × (stockTally f o t .barriers ≡ t .barriers) ×
-    (stockCallFault f o ≡ 0 → CountsOne (t .stocks) (stockTally f o t .stocks) × (stockTally f o t .refusals ≡ t .refusals)) ×
-    (eqb (stockCallFault f o) 0 ≡ false → (stockTally f o t .stocks ≡ t .stocks) × CountsOne (t .refusals) (stockTally f o t .refusals))
-
 abbrev pub SomeAnswer : Type 0
-SomeAnswer = (f o : List ℕ) → (r : Told) × ((v : List ℕ) × StockOwes f o r v)
+SomeAnswer = (c : ℕ) (f o : List ℕ) → (r : Told) × ((v : List ℕ) × StockOwes c f o r v)
 
 -- DEMAND 3, of the sheet half
 abbrev pub SheetsTell : Type 0

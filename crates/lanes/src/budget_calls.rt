@@ -8,13 +8,13 @@ use crate::Outcome;
 use crate::Searched;
 use crate::SearchedAnswer;
 use crate::calls::answered;
+use crate::calls::call_fault;
 use crate::calls::refused;
 use files::answers::put_budget;
 use files::stocks::read_stock;
 use formats::limits::CAMERAS_MOST;
 use formats::limits::FITS_MOST;
 use formats::limits::LINES_MOST;
-use formats::limits::ROOM;
 use formats::limits::SEARCHES_MOST;
 use pairing::plan::PairsFound;
 use pairing::plan::budget;
@@ -92,11 +92,12 @@ fn write_budget(
     with_searches(answered(size, Outcome::Stock), searches)
 }
 
-pub fn budget_by(file: &[u8], most: u32, out: &mut [u8]) -> SearchedAnswer
-    ensures { λ r. ⌜ BudgetAnswered most (now (file .entry)) (now (out .entry)) r (now (out .exit)) ⌝ }
+pub fn budget_by(file: &[u8], caller: u32, most: u32, out: &mut [u8]) -> SearchedAnswer
+    ensures { λ r. ⌜ BudgetAnswered caller most (now (file .entry)) (now (out .entry)) r (now (out .exit)) ⌝ }
 {
-    if out.len() < ROOM {
-        return with_searches(refused(1), 0);
+    let early = call_fault(caller, out.len());
+    if early != 0 {
+        return with_searches(refused(early), 0);
     }
     let most = most as usize;
     if most > SEARCHES_MOST {

@@ -4,12 +4,12 @@
 use crate::Answer;
 use crate::Outcome;
 use crate::calls::answered;
+use crate::calls::call_fault;
 use crate::calls::refused;
 use files::answers::put_barrier;
 use files::answers::put_path;
 use files::graphs::read_graph;
 use formats::limits::ARCS_MOST;
-use formats::limits::ROOM;
 use search::answer::path_or_barrier;
 ghost use mathlib.Core.Path.{_≡_};
 ghost use Prim.Native.Nat.{_*_, _≤_};
@@ -43,11 +43,12 @@ fn write_graph(
     }
 }
 
-pub fn answer_graph_by(file: &[u8], out: &mut [u8]) -> Answer
-    ensures { λ r. ⌜ GraphAnswered (now (file .entry)) (now (out .entry)) r (now (out .exit)) ⌝ }
+pub fn answer_graph_by(file: &[u8], caller: u32, out: &mut [u8]) -> Answer
+    ensures { λ r. ⌜ GraphAnswered caller (now (file .entry)) (now (out .entry)) r (now (out .exit)) ⌝ }
 {
-    if out.len() < ROOM {
-        return refused(1);
+    let early = call_fault(caller, out.len());
+    if early != 0 {
+        return refused(early);
     }
     let mut tails = [0u8; ARCS_MOST];
     let mut heads = [0u8; ARCS_MOST];

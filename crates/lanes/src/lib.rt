@@ -1,6 +1,6 @@
 // The pairing engine's calls (document 01, "Questions put to a call"): a graph, a stock for a plan and its standing sheet (document 02, L6), a
 // stock for what a budget of searches comes to (L4), and the check.
-//   answer_graph, stock, budget           answered in a lent buffer, and counted in a lent tally
+//   answer_graph, stock, budget           answered in a lent buffer, and counted for their caller in a lent tally
 //   check                                 a certificate judged; it lends no buffer and counts nothing
 //   graph_calls, stock_calls, budget_calls     the first three by value: what is told, and what it came to, uncounted
 //   calls                                 what those share: a refused call, and an answered one
@@ -16,19 +16,30 @@ mod verdicts;
 use budget_calls::budget_by;
 use files::graphs::read_graph;
 use formats::limits::ARCS_MOST;
+use formats::limits::CALLERS;
 use graph_calls::answer_graph_by;
 use stock_calls::stock_by;
 use tallies::count;
 use verdicts::judge;
 ghost use mathlib.Core.Path.{_≡_};
-ghost use Rattle.lanes.specs.Entry.{GraphOwes, graphTally, checkPost, StockOwes, stockTally, BudgetOwes, budgetTally};
+ghost use lib.ListN.{length};
+ghost use Rattle.lanes.specs.Entry.{GraphOwes, checkPost, StockOwes, BudgetOwes};
+ghost use Rattle.lanes.specs.Tallies.{call, graph, stock, budget, tallyAfter};
 
-// Counts of what the calls came to; a count at its largest stays there.
-pub struct Tally {
+// The number that the programs name: service.
+pub const SERVICE: u32 = 2;
+
+// What one caller's calls came to; a count at its largest stays there.
+pub struct Counts {
     pub paths: u32,
     pub barriers: u32,
     pub stocks: u32,
     pub refusals: u32,
+}
+
+// Each caller's counts, by the caller's number (document 02, L7).
+pub struct Tally {
+    pub sets: [Counts; CALLERS],
 }
 
 // What a call came to: the count that it adds to.
@@ -71,32 +82,32 @@ pub enum Verdict {
 }
 
 // A graph answered with some regular path from its source to the source's mate, or with the canonical barrier.
-pub fn answer_graph(file: &[u8], out: &mut [u8], tally: &mut Tally) -> Told
-    ensures { λ r. ⌜ GraphOwes (now (file .entry)) (now (out .entry)) r (now (out .exit)) ⌝ }
-    ensures tally { λ r. ⌜ now (tally .exit) ≡ graphTally (now (file .entry)) (now (out .entry)) (now (tally .entry)) ⌝ }
+pub fn answer_graph(file: &[u8], caller: u32, out: &mut [u8], tally: &mut Tally) -> Told
+    ensures { λ r. ⌜ GraphOwes caller (now (file .entry)) (now (out .entry)) r (now (out .exit)) ⌝ }
+    ensures tally { λ r. ⌜ now (tally .exit) ≡ tallyAfter (now (tally .entry)) (call caller graph (now (file .entry)) (length (now (out .entry)))) ⌝ }
 {
-    let answer = answer_graph_by(file, out);
-    count(tally, answer.outcome);
+    let answer = answer_graph_by(file, caller, out);
+    count(tally, caller, answer.outcome);
     answer.told
 }
 
 // A stock answered with a plan, directly followed by its standing sheet: which largest plan is left free.
-pub fn stock(file: &[u8], out: &mut [u8], tally: &mut Tally) -> Told
-    ensures { λ r. ⌜ StockOwes (now (file .entry)) (now (out .entry)) r (now (out .exit)) ⌝ }
-    ensures tally { λ r. ⌜ now (tally .exit) ≡ stockTally (now (file .entry)) (now (out .entry)) (now (tally .entry)) ⌝ }
+pub fn stock(file: &[u8], caller: u32, out: &mut [u8], tally: &mut Tally) -> Told
+    ensures { λ r. ⌜ StockOwes caller (now (file .entry)) (now (out .entry)) r (now (out .exit)) ⌝ }
+    ensures tally { λ r. ⌜ now (tally .exit) ≡ tallyAfter (now (tally .entry)) (call caller stock (now (file .entry)) (length (now (out .entry)))) ⌝ }
 {
-    let answer = stock_by(file, out);
-    count(tally, answer.outcome);
+    let answer = stock_by(file, caller, out);
+    count(tally, caller, answer.outcome);
     answer.told
 }
 
 // A stock answered with what at most `most` searches come to: which such pairing is left free.
-pub fn budget(file: &[u8], most: u32, out: &mut [u8], tally: &mut Tally) -> Searched
-    ensures { λ r. ⌜ BudgetOwes most (now (file .entry)) (now (out .entry)) r (now (out .exit)) ⌝ }
-    ensures tally { λ r. ⌜ now (tally .exit) ≡ budgetTally most (now (file .entry)) (now (out .entry)) (now (tally .entry)) ⌝ }
+pub fn budget(file: &[u8], caller: u32, most: u32, out: &mut [u8], tally: &mut Tally) -> Searched
+    ensures { λ r. ⌜ BudgetOwes caller most (now (file .entry)) (now (out .entry)) r (now (out .exit)) ⌝ }
+    ensures tally { λ r. ⌜ now (tally .exit) ≡ tallyAfter (now (tally .entry)) (call caller (budget most) (now (file .entry)) (length (now (out .entry)))) ⌝ }
 {
-    let answer = budget_by(file, most, out);
-    count(tally, answer.outcome);
+    let answer = budget_by(file, caller, most, out);
+    count(tally, caller, answer.outcome);
     answer.searched
 }
 

@@ -4,13 +4,13 @@
 use crate::Answer;
 use crate::Outcome;
 use crate::calls::answered;
+use crate::calls::call_fault;
 use crate::calls::refused;
 use files::answers::put_plan_and_sheet;
 use files::stocks::read_stock;
 use formats::limits::CAMERAS_MOST;
 use formats::limits::FITS_MOST;
 use formats::limits::LINES_MOST;
-use formats::limits::ROOM;
 use pairing::plan::plan;
 ghost use Prim.Native.Nat.{_≤_};
 ghost use lib.ListN.{length};
@@ -47,11 +47,12 @@ fn write_stock(
     answered(size, Outcome::Stock)
 }
 
-pub fn stock_by(file: &[u8], out: &mut [u8]) -> Answer
-    ensures { λ r. ⌜ StockAnswered (now (file .entry)) (now (out .entry)) r (now (out .exit)) ⌝ }
+pub fn stock_by(file: &[u8], caller: u32, out: &mut [u8]) -> Answer
+    ensures { λ r. ⌜ StockAnswered caller (now (file .entry)) (now (out .entry)) r (now (out .exit)) ⌝ }
 {
-    if out.len() < ROOM {
-        return refused(1);
+    let early = call_fault(caller, out.len());
+    if early != 0 {
+        return refused(early);
     }
     let mut firsts = [0u8; FITS_MOST];
     let mut seconds = [0u8; FITS_MOST];

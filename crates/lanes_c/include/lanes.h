@@ -1,12 +1,21 @@
-/* The pairing engine's calls, in liblanes_c.a (document 01, "Questions put to a call"; document 02: lanes_budget L4, refusal 16 L5, lanes_stock L6).
+/* The pairing engine's calls, in liblanes_c.a (document 01, "Questions put to a call"; document 02: lanes_budget L4, refusal 16 L5, lanes_stock L6,
+ * callers L7).
  *
  * A file and a buffer are a pointer and a number of bytes, each readable (a buffer also writable) over its whole length during the call; a buffer
  * overlaps neither the file nor the tally. No pointer is null. A call keeps nothing behind and may run in several threads at once.
  *
  * The lines of a file end with a line feed or with a carriage return and a line feed, also mixed in one file; those of an answer with a line feed alone.
  *
- * The tally is four counts, in this order: paths, barriers, stock answers, refusals. Each call but the check counts one up; a count at
- * 4,294,967,295 stays there. Start with zeros and hand the same four to every call.
+ * Each call but the check names its caller, whose counts in the tally are
+ *
+ *   caller            paths       barriers    stock answers   refusals
+ *   LANES_FOREMAN 0   tally[0]    tally[1]    tally[2]        tally[3]
+ *   LANES_GRADER  1   tally[4]    tally[5]    tally[6]        tally[7]
+ *   LANES_SERVICE 2   tally[8]    tally[9]    tally[10]       tally[11]
+ *   LANES_STORES  3   tally[12]   tally[13]   tally[14]       tally[15]
+ *
+ * A call counts up one of its caller's four and leaves the other fifteen; a count at 4,294,967,295 stays there. A caller above 3 is refused with 17,
+ * before all else, and counted nowhere. Start with zeros and hand the same sixteen to every call.
  *
  * A call returns the refusal (the number of the first question answered no, or 0 for an answer) in the lowest byte and the answer's bytes above:
  * LANES_NUMBER and LANES_SIZE; lanes_budget also the searches that it ran: LANES_SEARCHES. A refusal changes no byte of the buffer; an answer only
@@ -22,6 +31,11 @@
 extern "C" {
 #endif
 
+#define LANES_FOREMAN 0
+#define LANES_GRADER 1
+#define LANES_SERVICE 2
+#define LANES_STORES 3
+
 #define LANES_ROOM 2048
 
 #define LANES_NUMBER(told) ((unsigned)((told) & 0xFF))
@@ -33,20 +47,20 @@ extern "C" {
 
 /* A graph file: a regular path from the source to its mate or, where there is none, the canonical barrier. A graph that passes
  * questions 2 to 9 and has an arc from a node to itself is refused with 16, by the check too. */
-uint64_t lanes_graph(const uint8_t *file, size_t file_size, uint8_t *out, size_t out_size, uint32_t tally[4]);
+uint64_t lanes_graph(const uint8_t *file, size_t file_size, uint32_t caller, uint8_t *out, size_t out_size, uint32_t tally[16]);
 
 /* A stock file: a plan, directly followed by the standing sheet.
  * The plan: as many pairs as possible, every lit camera still lit; the lit pairs where those are as many. Header 51PP, lines 52UUVV, end 5FCCCC.
  * The sheet: the same whichever pairs are lit, the greatest number of pairs and a mark for each camera. Header 41PP, lines 43UUKK, end 4FCCCC. It begins at
  * byte 12 + 7 * PP, with the plan's PP, which is the sheet's too. Mark 00: some largest pairing leaves the camera over, and it has a fit; 01: none does, and it
  * fits a camera marked 00; 02: none does, and it fits no such camera; 03: it has no fit at all. */
-uint64_t lanes_stock(const uint8_t *file, size_t file_size, uint8_t *out, size_t out_size, uint32_t tally[4]);
+uint64_t lanes_stock(const uint8_t *file, size_t file_size, uint32_t caller, uint8_t *out, size_t out_size, uint32_t tally[16]);
 
 /* A stock file and how many searches may be run, 0 to LANES_SEARCHES_MOST; more are refused with 15. Each search lights one lane more, every lit camera
  * still lit, or finds that none can be lit, and then it is the last. The answer is a header 61PPSSMM, the pair lines of a plan, and 6FCCCC: PP pairs
  * after SS searches. MM is 00 if the last search found none, and otherwise half the cameras left over, rounded down; no pairing has more than PP plus
  * MM pairs. */
-uint64_t lanes_budget(const uint8_t *file, size_t file_size, uint32_t most, uint8_t *out, size_t out_size, uint32_t tally[4]);
+uint64_t lanes_budget(const uint8_t *file, size_t file_size, uint32_t caller, uint32_t most, uint8_t *out, size_t out_size, uint32_t tally[16]);
 
 /* A graph file and a certificate, a path or a barrier: 1 for yes, 0 for no, otherwise the refusal, which is 2 or more: the graph's number (2 to 10 or 16), or
  * the certificate's with 40 added. */

@@ -11,17 +11,16 @@ use mathlib.Core.Bool.{Bool, true, _||_, or-true}
 use mathlib.Core.List.{List}
 use Prim.Native.Nat.{ℕ, _+_, _≤_, _<_}
 use native.Mathlib.Omega.{arith}
-use lib.Dec.{leb, eqb}
-use lib.ListN.{length}
+use lib.Dec.{leb, ltb, eqb}
 use borrow.Author.Tests.{le-leb, leb-true}
-use Rattle.formats.specs.Limits.{room, searchesMost}
+use Rattle.formats.specs.Limits.{callers, room, searchesMost}
 use Rattle.counting.proofs.Booleans.{by-test}
 use Rattle.frames.specs.Frames.{orElse}
 use Rattle.files.specs.GraphFile.{graphIn, graphFault}
 use Rattle.files.proofs.Asked.{graph-refusal, stock-refusal}
 use Rattle.files.specs.StockFile.{stockFault}
 use Rattle.files.specs.CertificateFile.{certFault, certHolds}
-use Rattle.lanes.specs.Entry.{told, roomFault, answerFault, stockCallFault, checkFault, checkPost, mostFault, budgetFault, searched}
+use Rattle.lanes.specs.Entry.{told, callFault, answerFault, stockCallFault, checkFault, checkPost, mostFault, budgetFault, searched}
 use Rattle.lanes.specs.declared.Verdict.{Verdict}
 use Rattle.lanes.specs.declared.Verdict.the-variants.{Refused, Yes, No}
 use Rattle.lanes_c.specs.Exported.{Unpacks, CallsTell, UnpacksSearched, BudgetTells, said, SaysWhich, CheckTells}
@@ -58,14 +57,14 @@ unpacks : (n k : ℕ) → leb n 255 ≡ true → Unpacks (told n k)
 unpacks n k h =
     let l = leb-true n 255 h in by-test (eqb n 0) (λ t. rw t (omega (arith, l), omega (arith, l), λ small. omega (arith, l))) (λ t. rw t (omega (arith, l), omega (arith, l), λ small. omega (arith, l)))
 
--- question 1, and then those of a file
-after-room : (o : List ℕ) (n : ℕ) → leb n 255 ≡ true → leb (orElse (roomFault o) n) 255 ≡ true
-after-room o n h = by-test (leb room (length o)) (λ t. rw t h) (λ t. rw t)
+-- questions 17 and 1, and then those of a file
+call-low : (c n m : ℕ) → leb m 255 ≡ true → leb (callFault c n m) 255 ≡ true
+call-low c n m h = by-test (ltb c callers) (λ t. by-test (leb room n) (λ u. rw (t, u) h) (λ u. rw (t, u))) (λ t. rw t)
 
 pub calls-tell : CallsTell
-calls-tell f o k = (
-  unpacks (answerFault f o) k (after-room o (graphFault f) (graph-refusal f (λ (n : ℕ). leb n 255) refl refl)),
-  unpacks (stockCallFault f o) k (after-room o (stockFault f) (stock-refusal f (λ (n : ℕ). leb n 255) refl refl)),
+calls-tell c f n k = (
+  unpacks (answerFault c f n) k (call-low c n (graphFault f) (graph-refusal f (λ (m : ℕ). leb m 255) refl refl)),
+  unpacks (stockCallFault c f n) k (call-low c n (stockFault f) (stock-refusal f (λ (m : ℕ). leb m 255) refl refl)),
 )
 
 unpacks-searched : (n k j : ℕ) → leb n 255 ≡ true → k < 4294967296 → UnpacksSearched (searched n k j)
@@ -78,4 +77,4 @@ after-most : (b : ℕ) (f : List ℕ) → leb (orElse (mostFault b) (stockFault 
 after-most b f = by-test (leb b searchesMost) (λ t. rw t (stock-refusal f (λ (n : ℕ). leb n 255) refl refl)) (λ t. rw t)
 
 pub budget-tells : BudgetTells
-budget-tells b f o k j = unpacks-searched (budgetFault b f o) k j (after-room o (orElse (mostFault b) (stockFault f)) (after-most b f))
+budget-tells c b f n k j = unpacks-searched (budgetFault c b f n) k j (call-low c n (orElse (mostFault b) (stockFault f)) (after-most b f))

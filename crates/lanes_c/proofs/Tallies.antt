@@ -1,13 +1,56 @@
--- The four counts that a call leaves.
+-- The sixteen counts that a call leaves.
 --   counts-left    counts with an outcome counted, which is the one that the call comes to
-use mathlib.Core.Path.{_≡_, ap, _∙_}
-use mathlib.Core.List.{List}
-use Prim.Native.Nat.{ℕ}
-use Rattle.lanes.specs.Entry.{tallied}
+--   counts-stand   where each count stands
+--   counts-kept    sixteen counts and four sets are one and the same
+use mathlib.Core.Path.{_≡_, refl, ap, _∙_}
+use mathlib.Core.List.{List, [], _∷_}
+use Prim.Native.Nat.{ℕ, zero, suc}
+use native.Mathlib.Omega.{arith}
+use lib.ListN.{length}
+use Rattle.lanes.specs.Tallies.{tallied}
+use Rattle.lanes.specs.declared.Counts.{Counts}
 use Rattle.lanes.specs.declared.Outcome.{Outcome}
-use Rattle.lanes.specs.declared.Tally.{Tally}
-use Rattle.lanes_c.specs.Exported.{tallyOf, countsOf}
+use Rattle.lanes_c.specs.Exported.{tallyOf, allCounts, CountsStand, CountsKept}
 
-pub counts-left : (counts : List ℕ) {left : List ℕ} {came comes : Outcome} {owed : Tally} → left ≡ countsOf (tallied (tallyOf counts) came) → came ≡ comes →
-    tallied (tallyOf counts) comes ≡ owed → left ≡ countsOf owed
-counts-left counts p q r = p ∙ ap countsOf (ap (tallied (tallyOf counts)) q ∙ r)
+pub counts-left : (all : List ℕ) (caller : ℕ) {left : List ℕ} {came comes : Outcome} → left ≡ allCounts (tallied (tallyOf all) caller came) → came ≡ comes →
+    left ≡ allCounts (tallied (tallyOf all) caller comes)
+counts-left all caller p q = p ∙ ap (λ (w : Outcome). allCounts (tallied (tallyOf all) caller w)) q
+
+pub counts-stand : CountsStand
+counts-stand cs zero h = (refl, refl, refl, refl)
+counts-stand cs (suc zero) h = (refl, refl, refl, refl)
+counts-stand cs (suc (suc zero)) h = (refl, refl, refl, refl)
+counts-stand cs (suc (suc (suc zero))) h = (refl, refl, refl, refl)
+counts-stand cs (suc (suc (suc (suc c)))) h = absurd (omega arith)
+
+-- sixteen counts, one after the other
+counts-same : (cs : List ℕ) → length cs ≡ 16 → allCounts (tallyOf cs) ≡ cs
+counts-same [] z = absurd (omega arith)
+counts-same (a ∷ []) z = absurd (omega arith)
+counts-same (a ∷ b ∷ []) z = absurd (omega arith)
+counts-same (a ∷ b ∷ c ∷ []) z = absurd (omega arith)
+counts-same (a ∷ b ∷ c ∷ d ∷ []) z = absurd (omega arith)
+counts-same (a ∷ b ∷ c ∷ d ∷ e ∷ []) z = absurd (omega arith)
+counts-same (a ∷ b ∷ c ∷ d ∷ e ∷ f ∷ []) z = absurd (omega arith)
+counts-same (a ∷ b ∷ c ∷ d ∷ e ∷ f ∷ g ∷ []) z = absurd (omega arith)
+counts-same (a ∷ b ∷ c ∷ d ∷ e ∷ f ∷ g ∷ h ∷ []) z = absurd (omega arith)
+counts-same (a ∷ b ∷ c ∷ d ∷ e ∷ f ∷ g ∷ h ∷ i ∷ []) z = absurd (omega arith)
+counts-same (a ∷ b ∷ c ∷ d ∷ e ∷ f ∷ g ∷ h ∷ i ∷ j ∷ []) z = absurd (omega arith)
+counts-same (a ∷ b ∷ c ∷ d ∷ e ∷ f ∷ g ∷ h ∷ i ∷ j ∷ k ∷ []) z = absurd (omega arith)
+counts-same (a ∷ b ∷ c ∷ d ∷ e ∷ f ∷ g ∷ h ∷ i ∷ j ∷ k ∷ l ∷ []) z = absurd (omega arith)
+counts-same (a ∷ b ∷ c ∷ d ∷ e ∷ f ∷ g ∷ h ∷ i ∷ j ∷ k ∷ l ∷ m ∷ []) z = absurd (omega arith)
+counts-same (a ∷ b ∷ c ∷ d ∷ e ∷ f ∷ g ∷ h ∷ i ∷ j ∷ k ∷ l ∷ m ∷ n ∷ []) z = absurd (omega arith)
+counts-same (a ∷ b ∷ c ∷ d ∷ e ∷ f ∷ g ∷ h ∷ i ∷ j ∷ k ∷ l ∷ m ∷ n ∷ o ∷ []) z = absurd (omega arith)
+counts-same (a ∷ b ∷ c ∷ d ∷ e ∷ f ∷ g ∷ h ∷ i ∷ j ∷ k ∷ l ∷ m ∷ n ∷ o ∷ p ∷ []) z = refl
+counts-same (a ∷ b ∷ c ∷ d ∷ e ∷ f ∷ g ∷ h ∷ i ∷ j ∷ k ∷ l ∷ m ∷ n ∷ o ∷ p ∷ q ∷ cs) z = absurd (omega arith)
+
+sets-same : (xs : List Counts) → length xs ≡ 4 → tallyOf (allCounts (record { sets = xs })) ≡ record { sets = xs }
+sets-same [] h = absurd (omega arith)
+sets-same (a ∷ []) h = absurd (omega arith)
+sets-same (a ∷ b ∷ []) h = absurd (omega arith)
+sets-same (a ∷ b ∷ c ∷ []) h = absurd (omega arith)
+sets-same (a ∷ b ∷ c ∷ d ∷ []) h = refl
+sets-same (a ∷ b ∷ c ∷ d ∷ e ∷ xs) h = absurd (omega arith)
+
+pub counts-kept : CountsKept
+counts-kept = (counts-same, λ t four. sets-same (t .sets) four, λ cs. refl)

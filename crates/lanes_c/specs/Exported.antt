@@ -1,5 +1,8 @@
--- What an exported call returns and leaves: document 01's results as numbers, and its tally as four counts.
---   tallyOf, countsOf                                 the tally that four counts are, and the counts of a tally: paths, barriers, stocks, refusals
+-- What an exported call returns and leaves: document 01's results as numbers, and the tally as sixteen counts (document 02, L7).
+--   countsAt all at                                   four of them from a place on: paths, barriers, stocks, refusals
+--   tallyOf all, allCounts tally                      the tally that sixteen counts are, four a caller; and the sixteen of a tally
+--   CountsStand                                       where each count stands: caller c's four from 4 × c on, in that order
+--   CountsKept                                        nothing is lost either way: sixteen counts are those of their tally, and four sets those of their counts
 --   packed told                                       a call's result: its number in the lowest byte, its size above
 --   packedSearched searched                           the budgeted call's: the searches above the size, which takes four bytes
 --   said verdict                                      the check's: 1 for yes, 0 for no, otherwise the refusal
@@ -10,21 +13,42 @@
 --   Called pack Owes tally result after counts        what a call tells and leaves is owed, and the tally is as given
 use mathlib.Core.Path.{_≡_}
 use mathlib.Core.Logic.{_↔_}
-use mathlib.Core.List.{List, [], _∷_}
+use mathlib.Core.List.{List, [], _∷_, _++_}
 use Prim.Native.Nat.{ℕ, _+_, _*_, _/_, _%_, _≤_, _<_}
-use lib.ListN.{getD}
+use lib.ListN.{length, getD}
 use Rattle.lanes.specs.Entry.{told, answerFault, stockCallFault, checkPost, budgetFault, searched}
+use Rattle.lanes.specs.Tallies.{countsOf}
+use Rattle.lanes.specs.CallerPromise.{HasFour, countOf}
+use Rattle.lanes.specs.declared.Counts.{Counts}
 use Rattle.lanes.specs.declared.Tally.{Tally}
 use Rattle.lanes.specs.declared.Told.{Told}
 use Rattle.lanes.specs.declared.Searched.{Searched}
+use Rattle.lanes.specs.declared.Outcome.the-variants.{Path, Barrier, Stock, Refusal}
 use Rattle.lanes.specs.declared.Verdict.{Verdict}
 use Rattle.lanes.specs.declared.Verdict.the-variants.{Refused, Yes, No}
 
-abbrev pub tallyOf : (counts : List ℕ) → Tally
-tallyOf cs = record { paths = getD cs 0 0; barriers = getD cs 1 0; stocks = getD cs 2 0; refusals = getD cs 3 0 }
+abbrev pub countsAt : (all : List ℕ) → (at : ℕ) → Counts
+countsAt cs i = record { paths = getD cs i 0; barriers = getD cs (i + 1) 0; stocks = getD cs (i + 2) 0; refusals = getD cs (i + 3) 0 }
 
-abbrev pub countsOf : Tally → List ℕ
-countsOf t = t .paths ∷ t .barriers ∷ t .stocks ∷ t .refusals ∷ []
+abbrev pub tallyOf : (all : List ℕ) → Tally
+tallyOf cs = record { sets = countsAt cs 0 ∷ countsAt cs 4 ∷ countsAt cs 8 ∷ countsAt cs 12 ∷ [] }
+
+abbrev four : Counts → List ℕ
+four k = k .paths ∷ k .barriers ∷ k .stocks ∷ k .refusals ∷ []
+
+abbrev pub allCounts : Tally → List ℕ
+allCounts t = four (countsOf t 0) ++ four (countsOf t 1) ++ four (countsOf t 2) ++ four (countsOf t 3)
+
+abbrev pub CountsStand : Type 0
+CountsStand =
+    (cs : List ℕ) (c : ℕ) → c ≤ 3 →
+    (countOf (tallyOf cs) c Path ≡ getD cs (4 * c) 0) × (countOf (tallyOf cs) c Barrier ≡ getD cs (4 * c + 1) 0) ×
+    (countOf (tallyOf cs) c Stock ≡ getD cs (4 * c + 2) 0) × (countOf (tallyOf cs) c Refusal ≡ getD cs (4 * c + 3) 0)
+
+abbrev pub CountsKept : Type 0
+CountsKept =
+    ((cs : List ℕ) → length cs ≡ 16 → allCounts (tallyOf cs) ≡ cs) × ((t : Tally) → HasFour t → tallyOf (allCounts t) ≡ t) ×
+    ((cs : List ℕ) → HasFour (tallyOf cs))
 
 abbrev pub packed : Told → ℕ
 packed r = 256 * r .size + r .number
@@ -34,7 +58,8 @@ Unpacks r =
     (packed r % 256 ≡ r .number) × (packed r / 256 ≡ r .size) × (r .size < 4294967296 → packed r / 256 % 4294967296 ≡ r .size)
 
 abbrev pub CallsTell : Type 0
-CallsTell = (file buffer : List ℕ) (size : ℕ) → Unpacks (told (answerFault file buffer) size) × Unpacks (told (stockCallFault file buffer) size)
+CallsTell =
+    (caller : ℕ) (file : List ℕ) (lent size : ℕ) → Unpacks (told (answerFault caller file lent) size) × Unpacks (told (stockCallFault caller file lent) size)
 
 -- 2 to the power of 32, and of 40
 abbrev pub packedSearched : Searched → ℕ
@@ -47,7 +72,7 @@ UnpacksSearched r =
 
 abbrev pub BudgetTells : Type 0
 BudgetTells =
-    (most : ℕ) (file buffer : List ℕ) (size searches : ℕ) → size < 4294967296 → UnpacksSearched (searched (budgetFault most file buffer) size searches)
+    (caller most : ℕ) (file : List ℕ) (lent size searches : ℕ) → size < 4294967296 → UnpacksSearched (searched (budgetFault caller most file lent) size searches)
 
 abbrev pub said : Verdict → ℕ
 said (Refused n) = n
@@ -65,4 +90,4 @@ pub record Called {Result : Type 0} (pack : Result → ℕ) (Owes : Result → L
   pub told : Result
   pub owes : Owes told after
   pub returned : result ≡ pack told
-  pub counted : counts ≡ countsOf t
+  pub counted : counts ≡ allCounts t

@@ -1,8 +1,10 @@
 // The engine's calls for C and Rust (document 01, "Questions put to a call"), over numbers and slices alone; include/lanes.h declares them for C.
 //   lanes_graph, lanes_stock, lanes_budget, lanes_check  the calls
-//   tally_of, put_counts                                 four counts as a tally, and a tally as four counts
-//   count                                                one more of the count that an outcome names
+//   counts_at, tally_of                                  four of the sixteen counts as a caller's, and all as a tally
+//   put_tally                                            a tally as sixteen counts
+//   count                                                one more of the caller's count that an outcome names
 //   pack, pack_searched                                  a call's result as one number; the budgeted call's
+use lanes::Counts;
 use lanes::Outcome;
 use lanes::Searched;
 use lanes::Tally;
@@ -14,30 +16,68 @@ use lanes::graph_calls::answer_graph_by;
 use lanes::stock_calls::stock_by;
 use lanes::tallies::counted;
 ghost use mathlib.Core.Path.{_≡_};
-ghost use Rattle.lanes.specs.Entry.{tallied, GraphOwes, StockOwes, BudgetOwes, graphTally, stockTally, budgetTally, checkPost};
-ghost use Rattle.lanes_c.specs.Exported.{tallyOf, countsOf, packed, packedSearched, said, Called};
+ghost use Prim.Native.Nat.{_≤_};
+ghost use lib.ListN.{length};
+ghost use Rattle.lanes.specs.Entry.{GraphOwes, StockOwes, BudgetOwes, checkPost};
+ghost use Rattle.lanes.specs.Tallies.{call, graph, stock, budget, tallied, tallyAfter};
+ghost use Rattle.lanes_c.specs.Exported.{countsAt, tallyOf, allCounts, packed, packedSearched, said, Called};
 
-fn tally_of(counts: &[u32; 4]) -> Tally
-    ensures { λ r. ⌜ r ≡ tallyOf (now (counts .entry)) ⌝ }
+fn counts_at(all: &[u32; 16], at: usize) -> Counts
+    requires { ⌜ at ≤ 12 ⌝ }
+    ensures { λ r. ⌜ r ≡ countsAt (now (all .entry)) at ⌝ }
 {
-    Tally {
-        paths: counts[0],
-        barriers: counts[1],
-        stocks: counts[2],
-        refusals: counts[3],
+    Counts {
+        paths: all[at],
+        barriers: all[at + 1],
+        stocks: all[at + 2],
+        refusals: all[at + 3],
     }
 }
 
-fn put_counts(counts: &mut [u32; 4], tally: Tally)
-    ensures { λ _. ⌜ now (counts .exit) ≡ countsOf tally ⌝ }
+fn tally_of(all: &[u32; 16]) -> Tally
+    ensures { λ r. ⌜ r ≡ tallyOf (now (all .entry)) ⌝ }
 {
-    *counts = [tally.paths, tally.barriers, tally.stocks, tally.refusals];
+    Tally {
+        sets: [
+            counts_at(all, 0),
+            counts_at(all, 4),
+            counts_at(all, 8),
+            counts_at(all, 12),
+        ],
+    }
 }
 
-fn count(counts: &mut [u32; 4], which: Outcome)
-    ensures { λ _. ⌜ now (counts .exit) ≡ countsOf (tallied (tallyOf (now (counts .entry))) which) ⌝ }
+fn put_tally(all: &mut [u32; 16], tally: Tally)
+    ensures { λ _. ⌜ now (all .exit) ≡ allCounts tally ⌝ }
 {
-    put_counts(counts, counted(tally_of(counts), which));
+    let foreman = tally.sets[0];
+    let grader = tally.sets[1];
+    let service = tally.sets[2];
+    let stores = tally.sets[3];
+    *all = [
+        foreman.paths,
+        foreman.barriers,
+        foreman.stocks,
+        foreman.refusals,
+        grader.paths,
+        grader.barriers,
+        grader.stocks,
+        grader.refusals,
+        service.paths,
+        service.barriers,
+        service.stocks,
+        service.refusals,
+        stores.paths,
+        stores.barriers,
+        stores.stocks,
+        stores.refusals,
+    ];
+}
+
+fn count(all: &mut [u32; 16], caller: u32, which: Outcome)
+    ensures { λ _. ⌜ now (all .exit) ≡ allCounts (tallied (tallyOf (now (all .entry))) caller which) ⌝ }
+{
+    put_tally(all, counted(tally_of(all), caller, which));
 }
 
 fn pack(told: Told) -> u64
@@ -54,32 +94,48 @@ fn pack_searched(searched: Searched) -> u64
 }
 
 #[no_mangle]
-pub extern "C" fn lanes_graph(file: &[u8], out: &mut [u8], tally: &mut [u32; 4]) -> u64
-    ensures { λ r. ⌜ Called packed (GraphOwes (now (file .entry)) (now (out .entry))) (graphTally (now (file .entry)) (now (out .entry)) (tallyOf (now (tally .entry)))) r (now (out .exit)) (now (tally .exit)) ⌝ }
+pub extern "C" fn lanes_graph(
+    file: &[u8],
+    caller: u32,
+    out: &mut [u8],
+    tally: &mut [u32; 16],
+) -> u64
+    ensures { λ r. ⌜ Called packed (GraphOwes caller (now (file .entry)) (now (out .entry))) (tallyAfter (tallyOf (now (tally .entry))) (call caller graph (now (file .entry)) (length (now (out .entry))))) r (now (out .exit)) (now (tally .exit)) ⌝ }
 {
-    let answer = answer_graph_by(file, out);
+    let answer = answer_graph_by(file, caller, out);
     let outcome = answer.outcome;
-    count(tally, outcome);
+    count(tally, caller, outcome);
     pack(answer.told)
 }
 
 #[no_mangle]
-pub extern "C" fn lanes_stock(file: &[u8], out: &mut [u8], tally: &mut [u32; 4]) -> u64
-    ensures { λ r. ⌜ Called packed (StockOwes (now (file .entry)) (now (out .entry))) (stockTally (now (file .entry)) (now (out .entry)) (tallyOf (now (tally .entry)))) r (now (out .exit)) (now (tally .exit)) ⌝ }
+pub extern "C" fn lanes_stock(
+    file: &[u8],
+    caller: u32,
+    out: &mut [u8],
+    tally: &mut [u32; 16],
+) -> u64
+    ensures { λ r. ⌜ Called packed (StockOwes caller (now (file .entry)) (now (out .entry))) (tallyAfter (tallyOf (now (tally .entry))) (call caller stock (now (file .entry)) (length (now (out .entry))))) r (now (out .exit)) (now (tally .exit)) ⌝ }
 {
-    let answer = stock_by(file, out);
+    let answer = stock_by(file, caller, out);
     let outcome = answer.outcome;
-    count(tally, outcome);
+    count(tally, caller, outcome);
     pack(answer.told)
 }
 
 #[no_mangle]
-pub extern "C" fn lanes_budget(file: &[u8], most: u32, out: &mut [u8], tally: &mut [u32; 4]) -> u64
-    ensures { λ r. ⌜ Called packedSearched (BudgetOwes most (now (file .entry)) (now (out .entry))) (budgetTally most (now (file .entry)) (now (out .entry)) (tallyOf (now (tally .entry)))) r (now (out .exit)) (now (tally .exit)) ⌝ }
+pub extern "C" fn lanes_budget(
+    file: &[u8],
+    caller: u32,
+    most: u32,
+    out: &mut [u8],
+    tally: &mut [u32; 16],
+) -> u64
+    ensures { λ r. ⌜ Called packedSearched (BudgetOwes caller most (now (file .entry)) (now (out .entry))) (tallyAfter (tallyOf (now (tally .entry))) (call caller (budget most) (now (file .entry)) (length (now (out .entry))))) r (now (out .exit)) (now (tally .exit)) ⌝ }
 {
-    let answer = budget_by(file, most, out);
+    let answer = budget_by(file, caller, most, out);
     let outcome = answer.outcome;
-    count(tally, outcome);
+    count(tally, caller, outcome);
     pack_searched(answer.searched)
 }
 

@@ -86,22 +86,22 @@ module _ (f : List ℕ) {o v : List ℕ} {r : Told} where
       let q = g .1 e in (pathText (q .0), ((λ p. absurd (true-false e p), λ _. (q .0, (q .1 .0, refl))), q .1 .1))
 
 module _ (f : List ℕ) {o v w : List ℕ} {r : Told} {s : ℕ} (h : room ≤ length o) where
-  pub graph-prints : GraphOwes f o r v → Shows r v w s → Prints (GraphText f) o w s
+  pub graph-prints : GraphOwes 2 f o r v → Shows r v w s → Prints (GraphText f) o w s
   graph-prints g k =
-      let e : answerFault f o ≡ graphFault f = rw (le-leb room (length o) h) in
+      let e : answerFault 2 f (length o) ≡ graphFault f = rw (le-leb room (length o) h) in
       subst (λ (n : ℕ). Prints (RefusedOr n (GraphAnswer f)) o w s) e
       (shown (g .0) (λ z. graph-answer f (hasPath (graphIn f)) refl (g .1 z)) k)
 
-  pub stock-prints : StockOwes f o r v → Shows r v w s → Prints (StockText f) o w s
+  pub stock-prints : StockOwes 2 f o r v → Shows r v w s → Prints (StockText f) o w s
   stock-prints g k =
-      let e : stockCallFault f o ≡ stockFault f = rw (le-leb room (length o) h) in
+      let e : stockCallFault 2 f (length o) ≡ stockFault f = rw (le-leb room (length o) h) in
       subst (λ (n : ℕ). Prints (RefusedOr n (StockAnswer f)) o w s) e
       (shown (g .0) (λ z. let q = g .1 z in (planAndSheet (stockIn f) (q .0), ((q .0, (q .1 .0, refl)), q .1 .1))) k)
 
-pub budget-prints : (b : ℕ) (f : List ℕ) {o v w : List ℕ} {r : Searched} {s : ℕ} → room ≤ length o → BudgetOwes b f o r v → Shows (r .told) v w s →
+pub budget-prints : (b : ℕ) (f : List ℕ) {o v w : List ℕ} {r : Searched} {s : ℕ} → room ≤ length o → BudgetOwes 2 b f o r v → Shows (r .told) v w s →
     Prints (BudgetText b f) o w s
 budget-prints b f {o} {v} {w} {r} {s} h g k =
-    let e : budgetFault b f o ≡ orElse (mostFault b) (stockFault f) = rw (le-leb room (length o) h) in
+    let e : budgetFault 2 b f (length o) ≡ orElse (mostFault b) (stockFault f) = rw (le-leb room (length o) h) in
     subst (λ (n : ℕ). Prints (RefusedOr n (BudgetAnswer b f)) o w s) e
     (shown (λ z. let q = g .0 z in (ap (λ (x : Searched). x .told) (q .0), q .1))
     (λ z. let q = g .1 z in (budgetTextOf (stockIn f) b (q .0), ((q .0, (q .1 .0, refl)), (ap (λ (x : Searched). x .told) (q .1 .1), q .1 .2)))) k)

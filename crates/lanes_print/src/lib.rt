@@ -1,5 +1,5 @@
 // What the programs print (document 01, "Questions put to a call": Programs), at the front of a lent buffer: an answer's lines, or the one line of a
-// refusal or of the check. Each function answers how many bytes there are to print.
+// refusal or of the check. Each function answers how many bytes there are to print. The programs call as service (document 02, L7), and count nothing.
 //   print_graph, print_stock, print_budget, print_check   what each program prints
 //   argument                                              a number of searches as it is typed
 //   show, show_verdict                                    what a call told, and what the check says
@@ -8,6 +8,7 @@ mod argument;
 use argument::most_said;
 use formats::kinds;
 use frames::write::put_frame4;
+use lanes::SERVICE;
 use lanes::Told;
 use lanes::Verdict;
 use lanes::budget_calls::budget_by;
@@ -48,7 +49,7 @@ pub fn print_graph(file: &[u8], out: &mut [u8]) -> usize
     requires { ⌜ room ≤ length (now out) ⌝ }
     ensures { λ r. ⌜ Prints (GraphText (now (file .entry))) (now (out .entry)) (now (out .exit)) r ⌝ }
 {
-    let answer = answer_graph_by(file, out);
+    let answer = answer_graph_by(file, SERVICE, out);
     show(out, answer.told)
 }
 
@@ -56,7 +57,7 @@ pub fn print_stock(file: &[u8], out: &mut [u8]) -> usize
     requires { ⌜ room ≤ length (now out) ⌝ }
     ensures { λ r. ⌜ Prints (StockText (now (file .entry))) (now (out .entry)) (now (out .exit)) r ⌝ }
 {
-    let answer = stock_by(file, out);
+    let answer = stock_by(file, SERVICE, out);
     show(out, answer.told)
 }
 
@@ -64,7 +65,7 @@ pub fn print_budget(argument: &[u8], file: &[u8], out: &mut [u8]) -> usize
     requires { ⌜ room ≤ length (now out) ⌝ }
     ensures { λ r. ⌜ Prints (BudgetText (mostSaid (now (argument .entry))) (now (file .entry))) (now (out .entry)) (now (out .exit)) r ⌝ }
 {
-    let answer = budget_by(file, most_said(argument), out);
+    let answer = budget_by(file, SERVICE, most_said(argument), out);
     let searched = answer.searched;
     show(out, searched.told)
 }

@@ -9,11 +9,11 @@ tally-of-requires c κs = search needs
 counted-requires : tie.Need-counted-requires
 counted-requires c κs = search needs
 
-put-counts-requires : tie.Need-put-counts-requires
-put-counts-requires c κs = search needs
+put-tally-requires : tie.Need-put-tally-requires
+put-tally-requires c κs = search needs
 
 returns : tie.Need-returns
-returns c = rw (c .put-counts .ensures, c .before .counted .ensures, c .before .before .tally-of .ensures)
+returns c = rw (c .put-tally .ensures, c .before .counted .ensures, c .before .before .tally-of .ensures)
 
 pub count-spec : {M : Type 1} → statement M
-count-spec = tie.close (tie.spec tally-of-requires counted-requires put-counts-requires returns)
+count-spec = tie.close (tie.spec tally-of-requires counted-requires put-tally-requires returns)

@@ -1,6 +1,5 @@
 -- `lanes_c::lanes_budget` meets its contract.
 use borrow.Author.Needs.{needs}
-use Rattle.lanes.proofs.Outcomes.{budget-tallied}
 use Rattle.lanes_c.proofs.Tallies.{counts-left}
 use Rattle.lanes_c.proofs.lanes_budget.Statement.{statement}
 use Rattle.lanes_c.proofs.lanes_budget.Tie as tie
@@ -25,7 +24,7 @@ returns c =
       told = answered .result .searched;
       owes = answered .ensures .owes;
       returned = c .pack-searched .ensures;
-      counted = counts-left (a .tally .now) (c .before .count .ensures) (answered .ensures .outcome) (budget-tallied (a .most) (a .file .now) (a .out .now) _);
+      counted = counts-left (a .tally .now) (a .caller) (c .before .count .ensures) (answered .ensures .outcome);
     }
 
 pub lanes-budget-spec : {M : Type 1} → statement M

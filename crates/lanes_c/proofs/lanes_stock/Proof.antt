@@ -1,6 +1,5 @@
 -- `lanes_c::lanes_stock` meets its contract.
 use borrow.Author.Needs.{needs}
-use Rattle.lanes.proofs.Outcomes.{stock-tallied}
 use Rattle.lanes_c.proofs.Tallies.{counts-left}
 use Rattle.lanes_c.proofs.lanes_stock.Statement.{statement}
 use Rattle.lanes_c.proofs.lanes_stock.Tie as tie
@@ -25,7 +24,7 @@ returns c =
       told = answered .result .told;
       owes = answered .ensures .owes;
       returned = c .pack .ensures;
-      counted = counts-left (a .tally .now) (c .before .count .ensures) (answered .ensures .outcome) (stock-tallied (a .file .now) (a .out .now) _);
+      counted = counts-left (a .tally .now) (a .caller) (c .before .count .ensures) (answered .ensures .outcome);
     }
 
 pub lanes-stock-spec : {M : Type 1} → statement M

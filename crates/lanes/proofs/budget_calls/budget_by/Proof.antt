@@ -1,21 +1,26 @@
 -- Refused, or what was written is what is owed.
 use mathlib.Core.Path.{_≡_, refl, sym, _∙_}
+use Prim.Native.Nat.{_≤_}
 use native.Mathlib.Omega.{arith}
+use lib.ListN.{length}
 use lib.Seq.{length-take-le}
+use Rattle.formats.specs.Limits.{room}
+use Rattle.frames.specs.Frames.{orElse}
 use Rattle.files.specs.StockFile.{stockFault}
 use Rattle.files.specs.Readers.{StockHeld}
 use Rattle.files.proofs.StockFiles.{stock-held}
-use Rattle.lanes.specs.Entry.{budgetFault}
+use Rattle.lanes.specs.Entry.{mostFault, budgetFault}
+use Rattle.lanes.proofs.CallFaults.{call-refused, call-past}
 use Rattle.lanes.proofs.StockCalls.{stock-table}
-use Rattle.lanes.proofs.BudgetCalls.{room-fault, most-fault, file-fault, budget-refused, budget-answered}
+use Rattle.lanes.proofs.BudgetCalls.{most-fault, file-fault, budget-refused, budget-answered}
 use borrow.Author.Needs.{needs}
 use Rattle.lanes.proofs.budget_calls.budget_by.Statement.{statement}
 use Rattle.lanes.proofs.budget_calls.budget_by.Tie as tie
 
--- PLACES: the start, seen from question 1 answered yes; that, seen from 15 answered yes; that, seen from the reading; and the reading, seen from where
+-- PLACES: the start, seen from 17 and 1 answered yes; that, seen from 15 answered yes; that, seen from the reading; and the reading, seen from where
 -- no question refused
 abbrev start : tie.Else1 → tie.Start
-start c = c .before .before .before
+start c = c .before .before .before .before
 
 abbrev roomy : tie.Else2 → tie.Else1
 roomy c = c .before
@@ -26,9 +31,15 @@ asked c = c .before .before .before .before .before
 abbrev read : tie.Else3 → tie.After-read-stock
 read c = c .before .before .before .before .before
 
--- past 1 and 15 the file's questions are left
-left : (c : tie.After-read-stock) → let a = start (roomy (asked c)) .args in budgetFault (a .most) (a .file .now) (a .out .now) ≡ stockFault (a .file .now)
-left c = let a = start (roomy (asked c)) .args in file-fault (a .most) (a .file .now) (a .out .now) (roomy (asked c) .if1 .left) (asked c .if2 .left)
+-- past 17 and 1 the others are left, and there is room; past 15 the file's
+past : (c : tie.Else1) →
+    let a = start c .args in
+    (budgetFault (a .caller) (a .most) (a .file .now) (length (a .out .now)) ≡ orElse (mostFault (a .most)) (stockFault (a .file .now))) × (room ≤ length (a .out .now))
+past c =
+    let a = start c .args in call-past (a .caller) (length (a .out .now)) (orElse (mostFault (a .most)) (stockFault (a .file .now))) (c .before .call-fault .ensures) (c .if1 .left)
+
+left : (c : tie.After-read-stock) → let a = start (roomy (asked c)) .args in budgetFault (a .caller) (a .most) (a .file .now) (length (a .out .now)) ≡ stockFault (a .file .now)
+left c = let a = start (roomy (asked c)) .args in past (roomy (asked c)) .0 ∙ file-fault (a .most) (a .file .now) (asked c .if2 .left)
 
 none : (c : tie.Else3) → stockFault (start (roomy (asked (read c))) .args .file .now) ≡ 0
 none c = sym (read c .read-stock .ensures .says) ∙ c .if3 .left
@@ -38,6 +49,9 @@ held : (c : tie.Else3) →
     StockHeld (start (roomy (asked (read c))) .args .file .now) (s .last .1 .0) (s .last .1 .1 .0) (s .last .1 .1 .1 .0) (s .last .1 .1 .1 .1 .0) (s .result .cameras) (s .result .fits) (s .result .lit)
 held c = stock-held (read c .read-stock .ensures) (c .if3 .left)
 
+call-fault-requires : tie.Need-call-fault-requires
+call-fault-requires c κs = search needs
+
 refused-requires : tie.Need-refused-requires
 refused-requires c κs = search needs
 
@@ -46,8 +60,10 @@ with-searches-requires c κs = search needs
 
 returns : tie.Need-returns
 returns c =
-    let a = c .before .before .before .before .before .args in
-    budget-refused (room-fault (a .most) (a .file .now) (a .out .now) (c .before .before .if1 .taken)) (λ z. omega arith) (c .before .refused .ensures) (c .with-searches .ensures)
+    let i = c .before .before in
+    let e = i .before in
+    let a = e .before .before .before .args in
+    budget-refused (call-refused (a .caller) (length (a .out .now)) (orElse (mostFault (a .most)) (stockFault (a .file .now))) (e .call-fault .ensures) (i .if1 .taken)) (i .if1 .taken) (c .before .refused .ensures) (c .with-searches .ensures)
 
 refused-requires-2 : tie.Need-refused-requires-2
 refused-requires-2 c κs = search needs
@@ -59,7 +75,7 @@ returns-2 : tie.Need-returns-2
 returns-2 c =
     let e = c .before .before .before in
     let a = start e .args in
-    budget-refused (most-fault (a .most) (a .file .now) (a .out .now) (e .if1 .left) (c .before .before .if2 .taken)) (λ z. omega arith) (c .before .refused2 .ensures) (c .with-searches2 .ensures)
+    budget-refused (past e .0 ∙ most-fault (a .most) (a .file .now) (c .before .before .if2 .taken)) (λ z. omega arith) (c .before .refused2 .ensures) (c .with-searches2 .ensures)
 
 slice-aggregate-read-stock : tie.Need-slice-aggregate-read-stock
 slice-aggregate-read-stock c = search needs
@@ -114,7 +130,7 @@ slice-aggregate-write-budget-4 c = sym (length-take-le _ _ (held (c .before .bef
 write-budget-requires : tie.Need-write-budget-requires
 write-budget-requires c κs =
     let a = c .before .before .before .before .before in
-    (stock-table (held a) (none a) _ refl, (asked (read a) .if2 .left, roomy (asked (read a)) .if1 .left))
+    (stock-table (held a) (none a) _ refl, (asked (read a) .if2 .left, past (roomy (asked (read a))) .1))
 
 same-length : tie.Need-same-length
 same-length c = search needs
@@ -128,6 +144,7 @@ pub budget-by-spec : {M : Type 1} → statement M
 budget-by-spec =
     tie.close
     (tie.spec
+    call-fault-requires
     refused-requires
     with-searches-requires
     returns

@@ -3,19 +3,26 @@ use mathlib.Core.Path.{_≡_, sym, _∙_}
 use Prim.Native.Nat.{_≤_}
 use native.Mathlib.Omega.{arith}
 use lib.Seq.{length-take-le}
-use Rattle.formats.specs.Limits.{matePairsMost}
+use lib.ListN.{length}
+use Rattle.formats.specs.Limits.{room, matePairsMost}
 use Rattle.files.specs.GraphFile.{graphFault}
 use Rattle.files.specs.Readers.{GraphHeld}
 use Rattle.files.proofs.GraphFiles.{graph-held}
 use Rattle.files.proofs.ArcTables.{held-table}
-use Rattle.lanes.proofs.GraphCalls.{room-refused, file-refused, read-answered}
+use Rattle.lanes.specs.Entry.{answerFault}
+use Rattle.lanes.proofs.CallFaults.{call-refused, call-past}
+use Rattle.lanes.proofs.GraphCalls.{graph-refused, graph-answered}
 use borrow.Author.Needs.{needs}
 use Rattle.lanes.proofs.graph_calls.answer_graph_by.Statement.{statement}
 use Rattle.lanes.proofs.graph_calls.answer_graph_by.Tie as tie
 
--- PLACES: the start, seen from question 1 answered yes; that, seen from the reading; and the reading, seen from where no question refused
+-- PLACES: the start, seen from 17 and 1 answered yes; that, seen from the reading; and the reading, seen from where no question refused
 abbrev start : tie.Else1 → tie.Start
-start c = c .before .before .before
+start c = c .before .before .before .before
+
+-- what is left to be asked, and room
+past : (c : tie.Else1) → let a = start c .args in (answerFault (a .caller) (a .file .now) (length (a .out .now)) ≡ graphFault (a .file .now)) × (room ≤ length (a .out .now))
+past c = let a = start c .args in call-past (a .caller) (length (a .out .now)) (graphFault (a .file .now)) (c .before .call-fault .ensures) (c .if1 .left)
 
 abbrev asked : tie.After-read-graph → tie.Else1
 asked c = c .before .before .before
@@ -34,11 +41,17 @@ held c = graph-held (read c .read-graph .ensures) (c .if2 .left)
 few : (c : tie.Else2) → read c .read-graph .result .pairs ≤ matePairsMost
 few c = held-table (held c) (none c) .pairs-few
 
+call-fault-requires : tie.Need-call-fault-requires
+call-fault-requires c κs = search needs
+
 refused-requires : tie.Need-refused-requires
 refused-requires c κs = search needs
 
 returns : tie.Need-returns
-returns c = room-refused _ _ (c .before .if1 .taken) (c .refused .ensures)
+returns c =
+    let e = c .before .before in
+    let a = e .before .before .before .args in
+    graph-refused (call-refused (a .caller) (length (a .out .now)) (graphFault (a .file .now)) (e .call-fault .ensures) (c .before .if1 .taken)) (c .before .if1 .taken) (c .refused .ensures)
 
 slice-aggregate-read-graph : tie.Need-slice-aggregate-read-graph
 slice-aggregate-read-graph c = search needs
@@ -54,7 +67,8 @@ refused-requires-2 c κs = search needs
 
 returns-2 : tie.Need-returns-2
 returns-2 c =
-    let a = c .before .before .before .before in file-refused _ _ (asked a .if1 .left) (a .read-graph .ensures .says) (c .before .if2 .taken) (c .refused2 .ensures)
+    let a = c .before .before .before .before in
+    graph-refused (past (asked a) .0 ∙ sym (a .read-graph .ensures .says)) (c .before .if2 .taken) (c .refused2 .ensures)
 
 mul-nodes : tie.Need-mul-nodes
 mul-nodes c = omega (arith, few c)
@@ -84,19 +98,20 @@ write-graph-requires : tie.Need-write-graph-requires
 write-graph-requires c κs =
     let a = c .before .before .before .before .before in
     let k = few a in
-    (held-table (held a) (none a), ((length-take-le _ _ (omega arith), omega arith), asked (read a) .if1 .left))
+    (held-table (held a) (none a), ((length-take-le _ _ (omega arith), omega arith), past (asked (read a)) .1))
 
 same-length : tie.Need-same-length
 same-length c = search needs
 
 returns-3 : tie.Need-returns-3
 returns-3 c =
-    let a = c .before .before .before .before .before .before .before .before .before .before in read-answered (held a) (none a) (asked (read a) .if1 .left) (c .before .before .before .before .write-graph .ensures)
+    let a = c .before .before .before .before .before .before .before .before .before .before in graph-answered (held a) (past (asked (read a)) .0 ∙ none a) (c .before .before .before .before .write-graph .ensures)
 
 pub answer-graph-by-spec : {M : Type 1} → statement M
 answer-graph-by-spec =
     tie.close
     (tie.spec
+    call-fault-requires
     refused-requires
     returns
     slice-aggregate-read-graph

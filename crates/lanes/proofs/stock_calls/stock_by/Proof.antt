@@ -3,18 +3,26 @@ use mathlib.Core.Path.{_≡_, sym, _∙_}
 use Prim.Native.Nat.{_≤_}
 use native.Mathlib.Omega.{arith}
 use lib.Seq.{length-take-le}
-use Rattle.formats.specs.Limits.{camerasMost}
+use lib.ListN.{length}
+use Rattle.formats.specs.Limits.{room, camerasMost}
 use Rattle.files.specs.StockFile.{stockFault}
 use Rattle.files.specs.Readers.{StockHeld}
 use Rattle.files.proofs.StockFiles.{stock-held}
-use Rattle.lanes.proofs.StockCalls.{cameras-few, stock-table, room-fault, file-fault, stock-refused, stock-answered}
+use Rattle.lanes.specs.Entry.{stockCallFault}
+use Rattle.lanes.proofs.CallFaults.{call-refused, call-past}
+use Rattle.lanes.proofs.StockCalls.{cameras-few, stock-table, stock-refused, stock-answered}
 use borrow.Author.Needs.{needs}
 use Rattle.lanes.proofs.stock_calls.stock_by.Statement.{statement}
 use Rattle.lanes.proofs.stock_calls.stock_by.Tie as tie
 
--- PLACES: the start, seen from question 1 answered yes; that, seen from the reading; and the reading, seen from where no question refused
+-- PLACES: the start, seen from 17 and 1 answered yes; that, seen from the reading; and the reading, seen from where no question refused
 abbrev start : tie.Else1 → tie.Start
-start c = c .before .before .before
+start c = c .before .before .before .before
+
+-- what is left to be asked, and room
+past : (c : tie.Else1) →
+    let a = start c .args in (stockCallFault (a .caller) (a .file .now) (length (a .out .now)) ≡ stockFault (a .file .now)) × (room ≤ length (a .out .now))
+past c = let a = start c .args in call-past (a .caller) (length (a .out .now)) (stockFault (a .file .now)) (c .before .call-fault .ensures) (c .if1 .left)
 
 abbrev asked : tie.After-read-stock → tie.Else1
 asked c = c .before .before .before .before .before
@@ -33,12 +41,17 @@ held c = stock-held (read c .read-stock .ensures) (c .if2 .left)
 few : (c : tie.Else2) → read c .read-stock .result .cameras ≤ camerasMost
 few c = cameras-few (held c) (none c)
 
+call-fault-requires : tie.Need-call-fault-requires
+call-fault-requires c κs = search needs
+
 refused-requires : tie.Need-refused-requires
 refused-requires c κs = search needs
 
 returns : tie.Need-returns
 returns c =
-    let a = c .before .before .before .before in stock-refused (room-fault (a .args .file .now) (a .args .out .now) (c .before .if1 .taken)) (λ z. omega arith) (c .refused .ensures)
+    let e = c .before .before in
+    let a = e .before .before .before .args in
+    stock-refused (call-refused (a .caller) (length (a .out .now)) (stockFault (a .file .now)) (e .call-fault .ensures) (c .before .if1 .taken)) (c .before .if1 .taken) (c .refused .ensures)
 
 slice-aggregate-read-stock : tie.Need-slice-aggregate-read-stock
 slice-aggregate-read-stock c = search needs
@@ -60,7 +73,8 @@ refused-requires-2 c κs = search needs
 
 returns-2 : tie.Need-returns-2
 returns-2 c =
-    let a = c .before .before .before .before .before .before in stock-refused (file-fault (start (asked a) .args .file .now) (start (asked a) .args .out .now) (asked a .if1 .left) ∙ sym (a .read-stock .ensures .says)) (c .before .if2 .taken) (c .refused2 .ensures)
+    let a = c .before .before .before .before .before .before in
+    stock-refused (past (asked a) .0 ∙ sym (a .read-stock .ensures .says)) (c .before .if2 .taken) (c .refused2 .ensures)
 
 array-borrow-prefix-marks : tie.Need-array-borrow-prefix-marks
 array-borrow-prefix-marks c = omega (arith, few (c .before))
@@ -96,7 +110,7 @@ write-stock-requires : tie.Need-write-stock-requires
 write-stock-requires c κs =
     let a = c .before .before .before .before .before .before in
     let k = few a in
-    (stock-table (held a) (none a) _ (length-take-le _ _ (omega arith)), asked (read a) .if1 .left)
+    (stock-table (held a) (none a) _ (length-take-le _ _ (omega arith)), past (asked (read a)) .1)
 
 same-length : tie.Need-same-length
 same-length c = search needs
@@ -105,12 +119,13 @@ returns-3 : tie.Need-returns-3
 returns-3 c =
     let a = c .before .before .before .before .before .before .before .before .before .before in
     let k = few a in
-    stock-answered (held a) (file-fault (start (asked (read a)) .args .file .now) (start (asked (read a)) .args .out .now) (asked (read a) .if1 .left) ∙ none a) (length-take-le _ _ (omega arith)) (c .before .before .before .write-stock .ensures)
+    stock-answered (held a) (past (asked (read a)) .0 ∙ none a) (length-take-le _ _ (omega arith)) (c .before .before .before .write-stock .ensures)
 
 pub stock-by-spec : {M : Type 1} → statement M
 stock-by-spec =
     tie.close
     (tie.spec
+    call-fault-requires
     refused-requires
     returns
     slice-aggregate-read-stock

@@ -1,57 +1,29 @@
 -- `lanes::tallies::counted` meets its contract.
 use borrow.Author.Needs.{needs}
+use borrow.Author.Tests.{lt-ltb, le-ltb}
 use Rattle.lanes.proofs.tallies.counted.Statement.{statement}
 use Rattle.lanes.proofs.tallies.counted.Tie as tie
 
-enum-told : tie.Need-enum-told
-enum-told c = search needs
-
-raise-requires : tie.Need-raise-requires
-raise-requires c κs = search needs
-
-enum-told-2 : tie.Need-enum-told-2
-enum-told-2 c = search needs
-
-raise-requires-2 : tie.Need-raise-requires-2
-raise-requires-2 c κs = search needs
-
-enum-told-3 : tie.Need-enum-told-3
-enum-told-3 c = search needs
-
-raise-requires-3 : tie.Need-raise-requires-3
-raise-requires-3 c κs = search needs
-
-enum-told-4 : tie.Need-enum-told-4
-enum-told-4 c = search needs
-
-raise-requires-4 : tie.Need-raise-requires-4
-raise-requires-4 c κs = search needs
-
 returns : tie.Need-returns
-returns c = cc
+returns c = rw (le-ltb _ _ (c .if1 .taken))
+
+mul-add : tie.Need-mul-add
+mul-add c = search needs
+
+element-copy-out-add : tie.Need-element-copy-out-add
+element-copy-out-add c = search needs
+
+add-requires : tie.Need-add-requires
+add-requires c κs = search needs
+
+mul-t12 : tie.Need-mul-t12
+mul-t12 c = search needs
+
+element-set-from-tally : tie.Need-element-set-from-tally
+element-set-from-tally c = search needs
 
 returns-2 : tie.Need-returns-2
-returns-2 c = cc
-
-returns-3 : tie.Need-returns-3
-returns-3 c = cc
-
-returns-4 : tie.Need-returns-4
-returns-4 c = cc
+returns-2 c = rw (lt-ltb _ _ (c .before .before .if1 .left), c .add .ensures)
 
 pub counted-spec : {M : Type 1} → statement M
-counted-spec =
-    tie.close
-    (tie.spec
-    enum-told
-    raise-requires
-    enum-told-2
-    raise-requires-2
-    enum-told-3
-    raise-requires-3
-    enum-told-4
-    raise-requires-4
-    returns
-    returns-2
-    returns-3
-    returns-4)
+counted-spec = tie.close (tie.spec returns mul-add element-copy-out-add add-requires mul-t12 element-set-from-tally returns-2)

@@ -1,0 +1,38 @@
+-- The questions of a call before its file's: 17, then 1.
+--   call-refused    a refusal by one of them stands, whatever else is asked
+--   call-past       where neither refuses, the others decide; and there is room
+--   call-none       where a call is not refused, none of its questions refuses
+--   call-some       where one of the others refuses, the call is refused
+use mathlib.Core.Path.{_≡_, _∙_}
+use mathlib.Core.Logic.{_≢_}
+use mathlib.Core.Bool.{false}
+use Prim.Native.Nat.{ℕ, _≤_}
+use native.Mathlib.Omega.{arith}
+use lib.Dec.{eqb, ltb, leb}
+use borrow.Author.Tests.{leb-true}
+use Rattle.formats.specs.Limits.{callers, room}
+use Rattle.counting.proofs.Booleans.{by-test}
+use Rattle.lanes.specs.Entry.{callFault}
+
+module _ (c n m : ℕ) where
+  module _ {k : ℕ} (asked : k ≡ callFault c n 0) where
+    pub call-refused : k ≢ 0 → callFault c n m ≡ k
+    call-refused h =
+        rw asked
+        (by-test (ltb c callers) (λ t. by-test (leb room n) (λ u. absurd (h (asked ∙ rw (t, u)))) (λ u. rw (t, u))) (λ t. rw t))
+
+    pub call-past : k ≡ 0 → (callFault c n m ≡ m) × (room ≤ n)
+    call-past z =
+        by-test (ltb c callers)
+        (λ t.
+        by-test (leb room n) (λ u. (rw (t, u), leb-true room n u)) (λ u. let e : k ≡ 1 = asked ∙ rw (t, u) in absurd (omega arith)))
+        (λ t. let e : k ≡ 17 = asked ∙ rw t in absurd (omega arith))
+
+  pub call-none : callFault c n m ≡ 0 → m ≡ 0
+  call-none h =
+      by-test (ltb c callers)
+      (λ t. by-test (leb room n) (λ u. rw (t, u) at h) (λ u. let z : _≡_ {A = ℕ} 1 0 = rw (t, u) at h in absurd (omega arith)))
+      (λ t. let z : _≡_ {A = ℕ} 17 0 = rw t at h in absurd (omega arith))
+
+  pub call-some : eqb m 0 ≡ false → eqb (callFault c n m) 0 ≡ false
+  call-some h = by-test (ltb c callers) (λ t. by-test (leb room n) (λ u. rw (t, u) h) (λ u. rw (t, u))) (λ t. rw t)
