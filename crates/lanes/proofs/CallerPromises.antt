@@ -1,16 +1,16 @@
 -- What is promised of callers and of the tally, kept for every call and over any calls in a row.
 --   caller-first, wrong-caller, callers-alike, outcomes-are     question 17, and what calls come to
---   call-counts, calls-leave                                    one call
+--   calls-follow, call-counts, calls-leave                      one call
 --   own-counts, own-alone, whatever-between                     a caller's own calls
---   total-from, total                                           all counts together
+--   total-from, total, few-below                                all counts together
 use mathlib.Core.Path.{_≡_, refl, sym, ap, _∙_}
 use mathlib.Core.Logic.{_⊎_, inl, inr, ⊎-elim}
 use mathlib.Core.Bool.{true, false}
 use mathlib.Core.List.{List, [], _∷_}
-use Prim.Native.Nat.{ℕ, suc, _+_, _≤_, _<_}
+use Prim.Native.Nat.{ℕ, zero, suc, _+_, _≤_, _<_}
 use native.Mathlib.Omega.{arith}
 use lib.Dec.{leb, ltb, eqb}
-use lib.ListN.{length-set}
+use lib.ListN.{length, length-set}
 use lib.Seq.{getD-set-same, getD-set-other}
 use borrow.Author.Tests.{eqb-true, eqb-false, leb-true, leb-false, lt-ltb, le-ltb}
 use Rattle.formats.specs.Limits.{callers}
@@ -20,7 +20,7 @@ use Rattle.counting.proofs.Booleans.{by-test}
 use Rattle.counting.proofs.Summation.{sum-one-more}
 use Rattle.lanes.specs.Entry.{told}
 use Rattle.lanes.specs.Tallies.{largest, raised, noCounts, added, countsOf, tallied, Asked, graph, stock, budget, Call, call, check, OutcomeRule, outcomeOf, tallyBy, afterCalls}
-use Rattle.lanes.specs.CallerPromise.{CallerFirst, WrongCaller, CallersAlike, OutcomesAre, HasFour, countIn, countOf, CountsOne, CallCounts, isCounted, CallsLeave, isBy, ownCalls, addedBy, countsAfter, OwnCounts, OwnAlone, WhateverBetween, together, totalOf, AreBelow, countedCalls, TotalFrom, zeros, Total}
+use Rattle.lanes.specs.CallerPromise.{CallerFirst, WrongCaller, CallersAlike, OutcomesAre, HasFour, CallsFollow, countIn, countOf, CountsOne, CallCounts, isCounted, CallsLeave, isBy, ownCalls, addedBy, countsAfter, OwnCounts, OwnAlone, WhateverBetween, together, totalOf, AreBelow, countedCalls, TotalFrom, zeros, Total, FewBelow}
 use Rattle.lanes.specs.declared.Counts.{Counts}
 use Rattle.lanes.specs.declared.Tally.{Tally}
 use Rattle.lanes.specs.declared.Told.{Told}
@@ -144,6 +144,10 @@ one-call h t (call d a f n) c four low =
     (by-test (leb d 3) (λ z. tallied-other t d (h d a f n) (leb-true d 3 z) c (eqb-false c d e))
     (λ z. ap (λ (u : Tally). countsOf u c) (tallied-none t d (h d a f n) (leb-false d 3 z)))))
 
+pub calls-follow : CallsFollow
+unfolding afterCalls
+calls-follow t k ks = (refl, refl, four-after outcomeOf t k)
+
 pub own-counts : OwnCounts
 unfolding afterCalls keep countsAfter
 own-counts h t [] c four low = refl
@@ -165,24 +169,30 @@ whatever-between h t u ks ls c four fours low same own =
 pub own-alone : OwnAlone
 own-alone h t ks c four low = whatever-between h t t ks (ownCalls c ks) c four four low refl (sym (own-twice c ks))
 
--- ALL COUNTS TOGETHER: no count falls, and one is raised
-raised-rises : (n : ℕ) → n ≤ raised n
-raised-rises n = by-test (ltb n largest) (λ e. rw e (omega arith)) (λ e. rw e (omega arith))
+-- ALL COUNTS TOGETHER: a call raises no count by more than one, and lets none fall
+raised-near : (n : ℕ) → (n ≤ raised n) × (raised n ≤ suc n)
+raised-near n = by-test (ltb n largest) (λ e. rw e (omega arith, omega arith)) (λ e. rw e (omega arith, omega arith))
 
-added-rises : (x : Counts) (w u : Outcome) → countIn x u ≤ countIn (added x w) u
-added-rises x w u = ⊎-elim (λ q. rw (q .1) (raised-rises (countIn x u))) (λ q. omega (arith, q)) (added-by x w u)
+added-near : (x : Counts) (w u : Outcome) → (countIn x u ≤ countIn (added x w) u) × (countIn (added x w) u ≤ suc (countIn x u))
+added-near x w u = ⊎-elim (λ q. rw (q .1) (raised-near (countIn x u))) (λ q. (omega (arith, q), omega (arith, q))) (added-by x w u)
 
-one-rises : (h : OutcomeRule) (t : Tally) (k : Call) (c : ℕ) (u : Outcome) → HasFour t → c ≤ 3 → countOf t c u ≤ countOf (tallyBy h t k) c u
-one-rises h t k c u four low = rw (one-call h t k c four low) (go k)
+one-near : (h : OutcomeRule) (t : Tally) (k : Call) (c : ℕ) (u : Outcome) → HasFour t → c ≤ 3 →
+    (countOf t c u ≤ countOf (tallyBy h t k) c u) × (countOf (tallyBy h t k) c u ≤ suc (countOf t c u))
+one-near h t k c u four low = rw (one-call h t k c four low) (go k)
   where
-    go : (k : Call) → countOf t c u ≤ countIn (pick (isBy c k) (addedBy h (countsOf t c) k) (countsOf t c)) u
-    go (check g z) = omega arith
-    go (call d a f n) = by-test (eqb c d) (λ e. rw e (added-rises (countsOf t c) (h d a f n) u)) (λ e. rw e (omega arith))
+    go : (k : Call) →
+        let after = countIn (pick (isBy c k) (addedBy h (countsOf t c) k) (countsOf t c)) u in (countOf t c u ≤ after) × (after ≤ suc (countOf t c u))
+    go (check g z) = (omega arith, omega arith)
+    go (call d a f n) = by-test (eqb c d) (λ e. rw e (added-near (countsOf t c) (h d a f n) u)) (λ e. rw e (omega arith, omega arith))
 
-all-rise : (h : OutcomeRule) (t : Tally) (ks : List Call) (c : ℕ) (u : Outcome) → HasFour t → c ≤ 3 → countOf t c u ≤ countOf (afterCalls h t ks) c u
+all-near : (h : OutcomeRule) (t : Tally) (ks : List Call) (c : ℕ) (u : Outcome) → HasFour t → c ≤ 3 →
+    (countOf t c u ≤ countOf (afterCalls h t ks) c u) × (countOf (afterCalls h t ks) c u ≤ countOf t c u + length ks)
 unfolding afterCalls
-all-rise h t [] c u four low = omega arith
-all-rise h t (k ∷ ks) c u four low = omega (arith, one-rises h t k c u four low, all-rise h (tallyBy h t k) ks c u (four-after h t k four) low)
+all-near h t [] c u four low = (omega arith, omega arith)
+all-near h t (k ∷ ks) c u four low =
+    let one = one-near h t k c u four low in
+    let rest = all-near h (tallyBy h t k) ks c u (four-after h t k four) low in
+    (omega (arith, one .0, rest .0), omega (arith, one .1, rest .1))
 
 one-more : (x : Counts) (w : Outcome) → countIn x w < largest → together (added x w) ≡ suc (together x)
 one-more x Path l = rw (lt-ltb (x .paths) largest l) (omega arith)
@@ -208,7 +218,7 @@ unfolding afterCalls keep
 total-from h t [] four below = omega arith
 total-from h t (k ∷ ks) four below =
     let next = four-after h t k four in
-    let first : AreBelow t = λ c w low. omega (arith, below c w low, one-rises h t k c w four low, all-rise h (tallyBy h t k) ks c w next low) in
+    let first : AreBelow t = λ c w low. omega (arith, below c w low, all-near h t (k ∷ ks) c w four low .0) in
     let one = one-total h t k four first in
     let rest = total-from h (tallyBy h t k) ks next below in
     by-test (isCounted k) (λ e. rw e (omega (arith, rest, rw e at one))) (λ e. rw e (omega (arith, rest, rw e at one)))
@@ -218,3 +228,19 @@ unfolding sum
 total h ks below =
     let e : totalOf (afterCalls h zeros ks) ≡ 0 + countedCalls ks = total-from h zeros ks refl below in
     omega arith
+
+no-count : (u : Outcome) → countIn noCounts u ≡ 0
+no-count Path = refl
+no-count Barrier = refl
+no-count Stock = refl
+no-count Refusal = refl
+
+zero-counts : (c : ℕ) (u : Outcome) → c ≤ 3 → countOf zeros c u ≡ 0
+zero-counts zero u low = no-count u
+zero-counts (suc zero) u low = no-count u
+zero-counts (suc (suc zero)) u low = no-count u
+zero-counts (suc (suc (suc zero))) u low = no-count u
+zero-counts (suc (suc (suc (suc c)))) u low = absurd (omega arith)
+
+pub few-below : FewBelow
+few-below h ks few c u low = omega (arith, all-near h zeros ks c u refl low .1, zero-counts c u low)

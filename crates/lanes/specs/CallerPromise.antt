@@ -5,6 +5,7 @@
 --   CallersAlike      the same is owed to callers 0 to 3, and it comes to the same
 --   OutcomesAre       what a call comes to, by the first question answered no and by the graph
 --   HasFour t                 a tally of four sets, as the code's has
+--   CallsFollow       the tally after calls in a row is that after the others, begun with what the contract of the first one says; four sets stay four
 --   countIn, countOf          a count, by its outcome, and by its caller and outcome
 --   CountsOne n m             a count n, raised, is m; one at 4,294,967,295 remains
 --   CallCounts        a call by a caller 0 to 3 raises by one that caller's count of what it came to, and leaves the other fifteen
@@ -18,6 +19,7 @@
 --   AreBelow, countedCalls    no count has reached its largest; how many calls came from callers 0 to 3, checks aside
 --   TotalFrom         while no count has reached its largest, all counts together have grown by the calls from callers 0 to 3
 --   zeros, Total      so from zero they equal those calls
+--   FewBelow          and fewer than 4,294,967,295 calls from zero bring no count to its largest
 use mathlib.Core.Path.{_≡_}
 use mathlib.Core.Logic.{_↔_}
 use mathlib.Core.Bool.{Bool, true, false}
@@ -32,7 +34,7 @@ use Rattle.skew.specs.Graph.{hasPath}
 use Rattle.files.specs.GraphFile.{graphIn, graphFault}
 use Rattle.files.specs.StockFile.{stockFault}
 use Rattle.lanes.specs.Entry.{roomFault, answerFault, GraphOwes, stockCallFault, StockOwes, mostFault, budgetFault, BudgetOwes}
-use Rattle.lanes.specs.Tallies.{noCounts, added, countsOf, Asked, graph, stock, budget, Call, call, check, OutcomeRule, outcomeOf, tallyBy, afterCalls}
+use Rattle.lanes.specs.Tallies.{noCounts, added, countsOf, Asked, graph, stock, budget, Call, call, check, OutcomeRule, outcomeOf, tallyBy, tallyAfter, afterCalls}
 use Rattle.lanes.specs.declared.Counts.{Counts}
 use Rattle.lanes.specs.declared.Tally.{Tally}
 use Rattle.lanes.specs.declared.Told.{Told}
@@ -78,6 +80,11 @@ OutcomesAre =
 -- ONE CALL
 abbrev pub HasFour : Tally → Type 0
 HasFour t = length (t .sets) ≡ 4
+
+abbrev pub CallsFollow : Type 0
+CallsFollow =
+    (t : Tally) (k : Call) (ks : List Call) →
+    (afterCalls outcomeOf t [] ≡ t) × (afterCalls outcomeOf t (k ∷ ks) ≡ afterCalls outcomeOf (tallyAfter t k) ks) × (HasFour t → HasFour (tallyAfter t k))
 
 abbrev pub countIn : Counts → Outcome → ℕ
 countIn k Path = k .paths
@@ -159,3 +166,6 @@ zeros = record { sets = noCounts ∷ noCounts ∷ noCounts ∷ noCounts ∷ [] }
 abbrev pub Total : Type 0
 Total =
     (h : OutcomeRule) (ks : List Call) → AreBelow (afterCalls h zeros ks) → totalOf (afterCalls h zeros ks) ≡ countedCalls ks
+
+abbrev pub FewBelow : Type 0
+FewBelow = (h : OutcomeRule) (ks : List Call) → length ks < 4294967295 → AreBelow (afterCalls h zeros ks)

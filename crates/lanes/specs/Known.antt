@@ -208,15 +208,15 @@ KnownSelfArcs =
 abbrev pub counting : (paths barriers stocks refusals : ℕ) → Counts
 counting p b s r = record { paths = p; barriers = b; stocks = s; refusals = r }
 
--- service's stock; the foreman's graph without a path, and one with a path; a stock of a caller 4, and of one that the last byte would take for 0; a check;
--- service's budget of 65 searches; an empty file and no room, from stores
+-- service's stock; the foreman's graph without a path, and one with a path, twice; a stock of a caller 4, and of one that the last byte would take for 0; a
+-- check; service's budget of 65 searches; an empty file and no room, from stores
 abbrev pub someCalls : List Call
 someCalls =
-    call 2 stock s5File 2048 ∷ call 0 graph g1File 2048 ∷ call 0 graph g5File 2048 ∷ call 4 stock s5File 2048 ∷ call 256 stock s5File 2048 ∷
-    check g1File [] ∷ call 2 (budget 65) s5File 2048 ∷ call 3 stock [] 0 ∷ []
+    call 2 stock s5File 2048 ∷ call 0 graph g1File 2048 ∷ call 0 graph g5File 2048 ∷ call 0 graph g5File 2048 ∷ call 4 stock s5File 2048 ∷
+    call 256 stock s5File 2048 ∷ check g1File [] ∷ call 2 (budget 65) s5File 2048 ∷ call 3 stock [] 0 ∷ []
 
 abbrev pub afterThem : Tally
-afterThem = record { sets = counting 1 1 0 0 ∷ counting 0 0 0 0 ∷ counting 0 0 1 1 ∷ counting 0 0 0 1 ∷ [] }
+afterThem = record { sets = counting 2 1 0 0 ∷ counting 0 0 0 0 ∷ counting 0 0 1 1 ∷ counting 0 0 0 1 ∷ [] }
 
 -- at its largest a count of the grader stays, and one below is raised, whatever stands beside it
 abbrev pub full : Tally
@@ -230,5 +230,5 @@ KnownCallers =
     (budgetFault 4 65 [] 0 ≡ 17) × (budgetFault 3 65 [] 0 ≡ 1) × (budgetFault 3 65 [] 2048 ≡ 15) × (budgetFault 3 64 [] 2048 ≡ 4) ×
     (answerFault 255 g1File 2048 ≡ 17) × (stockCallFault 4 s5File 2047 ≡ 17) × (stockCallFault 0 s5File 2047 ≡ 1) × (answerFault 3 g1File 2048 ≡ 0) ×
     (afterCalls outcomeOf zeros someCalls ≡ afterThem) ×
-    (ownCalls 2 someCalls ≡ call 2 stock s5File 2048 ∷ call 2 (budget 65) s5File 2048 ∷ []) × (countedCalls someCalls ≡ 5) × (totalOf afterThem ≡ 5) ×
+    (ownCalls 2 someCalls ≡ call 2 stock s5File 2048 ∷ call 2 (budget 65) s5File 2048 ∷ []) × (countedCalls someCalls ≡ 6) × (totalOf afterThem ≡ 6) ×
     (tallied full 1 Path ≡ full) × (tallied full 1 Barrier ≡ fullAfter 4294967295) × (tallied (fullAfter 4294967295) 1 Barrier ≡ fullAfter 4294967295)

@@ -2,15 +2,17 @@
 --   counts-left    counts with an outcome counted, which is the one that the call comes to
 --   counts-stand   where each count stands
 --   counts-kept    sixteen counts and four sets are one and the same
+--   counts-follow  what a call leaves, for the next one to begin with
 use mathlib.Core.Path.{_≡_, refl, ap, _∙_}
 use mathlib.Core.List.{List, [], _∷_}
 use Prim.Native.Nat.{ℕ, zero, suc}
 use native.Mathlib.Omega.{arith}
 use lib.ListN.{length}
-use Rattle.lanes.specs.Tallies.{tallied}
+use Rattle.lanes.specs.Tallies.{tallied, outcomeOf, tallyAfter}
+use Rattle.lanes.proofs.CallerPromises.{calls-follow, calls-leave}
 use Rattle.lanes.specs.declared.Counts.{Counts}
 use Rattle.lanes.specs.declared.Outcome.{Outcome}
-use Rattle.lanes_c.specs.Exported.{tallyOf, allCounts, CountsStand, CountsKept}
+use Rattle.lanes_c.specs.Exported.{tallyOf, allCounts, CountsStand, CountsKept, CountsFollow}
 
 pub counts-left : (all : List ℕ) (caller : ℕ) {left : List ℕ} {came comes : Outcome} → left ≡ allCounts (tallied (tallyOf all) caller came) → came ≡ comes →
     left ≡ allCounts (tallied (tallyOf all) caller comes)
@@ -53,4 +55,13 @@ sets-same (a ∷ b ∷ c ∷ d ∷ []) h = refl
 sets-same (a ∷ b ∷ c ∷ d ∷ e ∷ xs) h = absurd (omega arith)
 
 pub counts-kept : CountsKept
-counts-kept = (counts-same, λ t four. sets-same (t .sets) four, λ cs. refl)
+counts-kept = (counts-same, λ t four. sets-same (t .sets) four, λ cs. refl, refl)
+
+pub counts-follow : CountsFollow
+counts-follow Result pack Owes k all result after counts long d =
+    let t = tallyAfter (tallyOf all) k in (
+      ap tallyOf (d .counted) ∙ sets-same (t .sets) (calls-follow (tallyOf all) k [] .2 refl),
+      ap (λ (cs : List ℕ). length cs) (d .counted),
+      λ e. d .counted ∙ ap allCounts (calls-leave outcomeOf (tallyOf all) k e) ∙ counts-same all long,
+      (d .told, (d .returned, d .owes)),
+    )

@@ -2,7 +2,8 @@
 --   countsAt all at                                   four of them from a place on: paths, barriers, stocks, refusals
 --   tallyOf all, allCounts tally                      the tally that sixteen counts are, four a caller; and the sixteen of a tally
 --   CountsStand                                       where each count stands: caller c's four from 4 × c on, in that order
---   CountsKept                                        nothing is lost either way: sixteen counts are those of their tally, and four sets those of their counts
+--   CountsKept                                        nothing is lost either way: sixteen counts are those of their tally, and four sets those of their counts;
+--                                                     sixteen zeros are the tally of zeros
 --   packed told                                       a call's result: its number in the lowest byte, its size above
 --   packedSearched searched                           the budgeted call's: the searches above the size, which takes four bytes
 --   said verdict                                      the check's: 1 for yes, 0 for no, otherwise the refusal
@@ -11,14 +12,17 @@
 --                                                     of the graph call and of the stock call
 --   UnpacksSearched searched, BudgetTells             and the searches too; so it is of the budgeted call
 --   Called pack Owes tally result after counts        what a call tells and leaves is owed, and the tally is as given
+--   CountsFollow                                      so the sixteen counts after a call are those of the tally after it, for the next call to begin with;
+--                                                     a call by 4 and above leaves them as they were; and what is told is owed
 use mathlib.Core.Path.{_≡_}
 use mathlib.Core.Logic.{_↔_}
+use mathlib.Core.Bool.{false}
 use mathlib.Core.List.{List, [], _∷_, _++_}
 use Prim.Native.Nat.{ℕ, _+_, _*_, _/_, _%_, _≤_, _<_}
-use lib.ListN.{length, getD}
+use lib.ListN.{length, getD, replicate}
 use Rattle.lanes.specs.Entry.{told, answerFault, stockCallFault, checkPost, budgetFault, searched}
-use Rattle.lanes.specs.Tallies.{countsOf}
-use Rattle.lanes.specs.CallerPromise.{HasFour, countOf}
+use Rattle.lanes.specs.Tallies.{countsOf, Call, tallyAfter}
+use Rattle.lanes.specs.CallerPromise.{HasFour, countOf, isCounted, zeros}
 use Rattle.lanes.specs.declared.Counts.{Counts}
 use Rattle.lanes.specs.declared.Tally.{Tally}
 use Rattle.lanes.specs.declared.Told.{Told}
@@ -48,7 +52,7 @@ CountsStand =
 abbrev pub CountsKept : Type 0
 CountsKept =
     ((cs : List ℕ) → length cs ≡ 16 → allCounts (tallyOf cs) ≡ cs) × ((t : Tally) → HasFour t → tallyOf (allCounts t) ≡ t) ×
-    ((cs : List ℕ) → HasFour (tallyOf cs))
+    ((cs : List ℕ) → HasFour (tallyOf cs)) × (tallyOf (replicate 16 0) ≡ zeros)
 
 abbrev pub packed : Told → ℕ
 packed r = 256 * r .size + r .number
@@ -91,3 +95,10 @@ pub record Called {Result : Type 0} (pack : Result → ℕ) (Owes : Result → L
   pub owes : Owes told after
   pub returned : result ≡ pack told
   pub counted : counts ≡ allCounts t
+
+abbrev pub CountsFollow : Type 1
+CountsFollow =
+    (Result : Type 0) (pack : Result → ℕ) (Owes : Result → List ℕ → Type 0) (k : Call) (all : List ℕ) (result : ℕ) (after counts : List ℕ) → length all ≡ 16 →
+    Called pack Owes (tallyAfter (tallyOf all) k) result after counts →
+    (tallyOf counts ≡ tallyAfter (tallyOf all) k) × (length counts ≡ 16) × (isCounted k ≡ false → counts ≡ all) ×
+    ((r : Result) × ((result ≡ pack r) × Owes r after))
