@@ -2,7 +2,8 @@
  * callers L7).
  *
  * A file and a buffer are a pointer and a number of bytes, each readable (a buffer also writable) over its whole length during the call; a buffer
- * overlaps neither the file nor the tally. No pointer is null. A call keeps nothing behind and may run in several threads at once.
+ * overlaps neither the file nor the tally. No pointer is null. A call keeps nothing behind; calls that run at once, in several threads, take a buffer and a
+ * tally each, also where their callers differ, for a call reads and writes all sixteen counts.
  *
  * The lines of a file end with a line feed or with a carriage return and a line feed, also mixed in one file; those of an answer with a line feed alone.
  *
