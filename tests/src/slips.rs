@@ -111,6 +111,7 @@ pub fn of_check() -> Vec<Named> {
         named("a skipped class taken for none", Parts { holds: skipped_class_taken, ..right() }),
         named("parallel entries counted once", Parts { holds: entries_by_ends, ..right() }),
         named("a path taken that ends anywhere", Parts { holds: any_end, ..right() }),
+        named("every run of arcs taken for a path", Parts { holds: any_arcs, ..right() }),
         named("64 added for 40", Parts { added_for_certificates: 64, ..right() }),
         named("class 82 read in base ten", Parts { read_certificate: Box::new(class_82_in_base_ten), ..right() }),
     ]
@@ -145,6 +146,10 @@ fn any_end(graph: &Graph, certificate: &Certificate) -> bool {
         }
         _ => graph_trial::certificate_holds(graph, certificate),
     }
+}
+
+fn any_arcs(graph: &Graph, certificate: &Certificate) -> bool {
+    matches!(certificate, Certificate::Path(_)) || graph_trial::certificate_holds(graph, certificate)
 }
 
 fn class_82_in_base_ten(graph: &Graph, file: &[u8]) -> Result<Certificate, u8> {
