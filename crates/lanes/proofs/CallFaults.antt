@@ -1,9 +1,10 @@
 -- The questions of a call before its file's: 17, then 1.
 --   call-refused    a refusal by one of them stands, whatever else is asked
 --   call-past       where neither refuses, the others decide; and there is room
+--   call-is         a call's refusal is 17, 1 or that of the others: what holds of the three holds of it
 --   call-none       where a call is not refused, none of its questions refuses
 --   call-some       where one of the others refuses, the call is refused
-use mathlib.Core.Path.{_≡_, _∙_}
+use mathlib.Core.Path.{_≡_, refl, _∙_}
 use mathlib.Core.Logic.{_≢_}
 use mathlib.Core.Bool.{false}
 use Prim.Native.Nat.{ℕ, _≤_}
@@ -28,11 +29,11 @@ module _ (c n m : ℕ) where
         by-test (leb room n) (λ u. (rw (t, u), leb-true room n u)) (λ u. let e : k ≡ 1 = asked ∙ rw (t, u) in absurd (omega arith)))
         (λ t. let e : k ≡ 17 = asked ∙ rw t in absurd (omega arith))
 
+  pub call-is : (P : ℕ → Type 0) → P 17 → P 1 → P m → P (callFault c n m)
+  call-is P p q r = by-test (ltb c callers) (λ t. by-test (leb room n) (λ u. rw (t, u) r) (λ u. rw (t, u) q)) (λ t. rw t p)
+
   pub call-none : callFault c n m ≡ 0 → m ≡ 0
-  call-none h =
-      by-test (ltb c callers)
-      (λ t. by-test (leb room n) (λ u. rw (t, u) at h) (λ u. let z : _≡_ {A = ℕ} 1 0 = rw (t, u) at h in absurd (omega arith)))
-      (λ t. let z : _≡_ {A = ℕ} 17 0 = rw t at h in absurd (omega arith))
+  call-none = call-is (λ (k : ℕ). k ≡ 0 → m ≡ 0) (λ z. absurd (omega arith)) (λ z. absurd (omega arith)) (λ z. z)
 
   pub call-some : eqb m 0 ≡ false → eqb (callFault c n m) 0 ≡ false
-  call-some h = by-test (ltb c callers) (λ t. by-test (leb room n) (λ u. rw (t, u) h) (λ u. rw (t, u))) (λ t. rw t)
+  call-some = call-is (λ (k : ℕ). eqb k 0 ≡ false) refl refl

@@ -11,9 +11,9 @@ use mathlib.Core.Bool.{Bool, true, _||_, or-true}
 use mathlib.Core.List.{List}
 use Prim.Native.Nat.{ℕ, _+_, _≤_, _<_}
 use native.Mathlib.Omega.{arith}
-use lib.Dec.{leb, ltb, eqb}
+use lib.Dec.{leb, eqb}
 use borrow.Author.Tests.{le-leb, leb-true}
-use Rattle.formats.specs.Limits.{callers, room, searchesMost}
+use Rattle.formats.specs.Limits.{searchesMost}
 use Rattle.counting.proofs.Booleans.{by-test}
 use Rattle.frames.specs.Frames.{orElse}
 use Rattle.files.specs.GraphFile.{graphIn, graphFault}
@@ -21,6 +21,7 @@ use Rattle.files.proofs.Asked.{graph-refusal, stock-refusal}
 use Rattle.files.specs.StockFile.{stockFault}
 use Rattle.files.specs.CertificateFile.{certFault, certHolds}
 use Rattle.lanes.specs.Entry.{told, callFault, answerFault, stockCallFault, checkFault, checkPost, mostFault, budgetFault, searched}
+use Rattle.lanes.proofs.CallFaults.{call-is}
 use Rattle.lanes.specs.declared.Verdict.{Verdict}
 use Rattle.lanes.specs.declared.Verdict.the-variants.{Refused, Yes, No}
 use Rattle.lanes_c.specs.Exported.{Unpacks, CallsTell, UnpacksSearched, BudgetTells, said, SaysWhich, CheckTells}
@@ -57,9 +58,8 @@ unpacks : (n k : ℕ) → leb n 255 ≡ true → Unpacks (told n k)
 unpacks n k h =
     let l = leb-true n 255 h in by-test (eqb n 0) (λ t. rw t (omega (arith, l), omega (arith, l), λ small. omega (arith, l))) (λ t. rw t (omega (arith, l), omega (arith, l), λ small. omega (arith, l)))
 
--- questions 17 and 1, and then those of a file
 call-low : (c n m : ℕ) → leb m 255 ≡ true → leb (callFault c n m) 255 ≡ true
-call-low c n m h = by-test (ltb c callers) (λ t. by-test (leb room n) (λ u. rw (t, u) h) (λ u. rw (t, u))) (λ t. rw t)
+call-low c n m = call-is c n m (λ (k : ℕ). leb k 255 ≡ true) refl refl
 
 pub calls-tell : CallsTell
 calls-tell c f n k = (
