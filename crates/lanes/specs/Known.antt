@@ -15,8 +15,9 @@
 --   Budgets                           a pairing is one that so many searches may come to, with these numbers in the header
 --   KnownBudgets                      S5's answers to budgets of 0, 1, 2 and 64 searches, and edges
 --   KnownSelfArcs                     question 16, with those before and after it, and in the check; an arc to a node's mate
---   counting p b s r                  a caller's counts: paths, barriers, stocks, refusals
+--   counts p b s r                    a caller's counts: paths, barriers, stocks, refusals
 --   someCalls, afterThem              calls of several callers, a check and wrong callers among them; the tally that they leave
+--   nearLargest n                     a tally with counts at their largest, the grader's barriers being n
 --   KnownCallers                      question 17 before 1 and 15; those calls, one caller's own among them, and their sum; counts at their largest
 use mathlib.Core.Path.{_≡_}
 use mathlib.Core.Bool.{true, false}
@@ -205,8 +206,8 @@ KnownSelfArcs =
     (isBarrier (graphOf 1 (arc 0 0 ∷ arc 1 1 ∷ [])) (1 ∷ 2 ∷ []) ≡ true)
 
 -- CALLERS (document 02, L7)
-abbrev pub counting : (paths barriers stocks refusals : ℕ) → Counts
-counting p b s r = record { paths = p; barriers = b; stocks = s; refusals = r }
+abbrev pub counts : (paths barriers stocks refusals : ℕ) → Counts
+counts p b s r = record { paths = p; barriers = b; stocks = s; refusals = r }
 
 -- service's stock; the foreman's graph without a path, and one with a path, twice; a stock of a caller 4, and of one that the last byte would take for 0; a
 -- check; service's budget of 65 searches; an empty file and no room, from stores
@@ -216,19 +217,17 @@ someCalls =
     call 256 stock s5File 2048 ∷ check g1File [] ∷ call 2 (budget 65) s5File 2048 ∷ call 3 stock [] 0 ∷ []
 
 abbrev pub afterThem : Tally
-afterThem = record { sets = counting 2 1 0 0 ∷ counting 0 0 0 0 ∷ counting 0 0 1 1 ∷ counting 0 0 0 1 ∷ [] }
+afterThem = record { sets = counts 2 1 0 0 ∷ counts 0 0 0 0 ∷ counts 0 0 1 1 ∷ counts 0 0 0 1 ∷ [] }
 
--- at its largest a count of the grader stays, and one below is raised, whatever stands beside it
-abbrev pub full : Tally
-full = record { sets = counting 0 4294967295 7 0 ∷ counting 4294967295 4294967294 0 5 ∷ counting 1 2 3 4 ∷ counting 0 0 0 4294967295 ∷ [] }
+abbrev pub nearLargest : (barriers : ℕ) → Tally
+nearLargest n = record { sets = counts 0 4294967295 7 0 ∷ counts 4294967295 n 0 5 ∷ counts 1 2 3 4 ∷ counts 0 0 0 4294967295 ∷ [] }
 
-abbrev pub fullAfter : (barriers : ℕ) → Tally
-fullAfter n = record { sets = counting 0 4294967295 7 0 ∷ counting 4294967295 n 0 5 ∷ counting 1 2 3 4 ∷ counting 0 0 0 4294967295 ∷ [] }
-
+-- the grader's paths at their largest stay; the barriers, one below, come to it, and stay
 abbrev pub KnownCallers : Type 0
 KnownCallers =
     (budgetFault 4 65 [] 0 ≡ 17) × (budgetFault 3 65 [] 0 ≡ 1) × (budgetFault 3 65 [] 2048 ≡ 15) × (budgetFault 3 64 [] 2048 ≡ 4) ×
     (answerFault 255 g1File 2048 ≡ 17) × (stockCallFault 4 s5File 2047 ≡ 17) × (stockCallFault 0 s5File 2047 ≡ 1) × (answerFault 3 g1File 2048 ≡ 0) ×
     (afterCalls outcomeOf zeros someCalls ≡ afterThem) ×
     (ownCalls 2 someCalls ≡ call 2 stock s5File 2048 ∷ call 2 (budget 65) s5File 2048 ∷ []) × (countedCalls someCalls ≡ 6) × (totalOf afterThem ≡ 6) ×
-    (tallied full 1 Path ≡ full) × (tallied full 1 Barrier ≡ fullAfter 4294967295) × (tallied (fullAfter 4294967295) 1 Barrier ≡ fullAfter 4294967295)
+    (tallied (nearLargest 4294967294) 1 Path ≡ nearLargest 4294967294) × (tallied (nearLargest 4294967294) 1 Barrier ≡ nearLargest 4294967295) ×
+    (tallied (nearLargest 4294967295) 1 Barrier ≡ nearLargest 4294967295)

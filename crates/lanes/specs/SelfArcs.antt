@@ -1,8 +1,8 @@
 -- What is promised of the calls that read a graph, where an arc may lead from a node to itself (document 02, L5).
 --   CallsAsBefore  without such an arc the graph call and the check refuse what document 03's questions do, with the same number
 --   CallsRefuse    with one, both refuse, whatever buffer or certificate they are handed: the call with 17, 1 or the number
---                  of files/specs/SelfArcs, leaving the buffer as it was and counting its caller a refusal, the check with that number, to which no 40
---                  is added
+--                  of files/specs/SelfArcs, leaving the buffer as it was and counting a refusal of its caller's, if there is such a one, the check with
+--                  that number, to which no 40 is added
 use mathlib.Core.Path.{_≡_}
 use mathlib.Core.List.{List}
 use Prim.Native.Nat.{ℕ}

@@ -3,8 +3,8 @@
 //   answer_graph, stock, budget           answered in a lent buffer, and counted for their caller in a lent tally
 //   check                                 a certificate judged; it lends no buffer and counts nothing
 //   graph_calls, stock_calls, budget_calls     the first three by value: what is told, and what it came to, uncounted
-//   calls                                 what those share: a refused call, and an answered one
-//   tallies                               the tally counted up, by value and lent
+//   calls                                 what those share: the questions before a file's, a refused call, and an answered one
+//   tallies                               the tally counted up for a caller (L7), by value and lent
 //   verdicts                              a certificate judged against a graph that was read
 pub mod budget_calls;
 mod calls;
