@@ -10,6 +10,7 @@
 --   Numbering      kept elements numbered by how many come before
 --   Summation      sums compared
 --   Stores         runs of stores into a list
+--   Parts          parts of a list, also after stores into it
 --   Zips           two lists, pair by pair
 pub mod Booleans
 pub mod Membership
@@ -22,4 +23,5 @@ pub mod Involutions
 pub mod Numbering
 pub mod Summation
 pub mod Stores
+pub mod Parts
 pub mod Zips

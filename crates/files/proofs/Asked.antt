@@ -2,6 +2,7 @@
 -- is answered no.
 --   graph-asked, stock-asked, path-asked, barrier-asked     one for each kind of file
 --   basic-asked                                             and document 03's own for a graph, without 16
+--   lit-asked                                               past 11, a stock's questions of its pairs are those of the lit pairs against the fits
 --   graph-refusal, stock-refusal                            a refusal is 0 or one of the list's numbers: what holds of those holds of it
 use mathlib.Core.Path.{_≡_, refl}
 use mathlib.Core.Bool.{Bool, true}
@@ -12,16 +13,19 @@ use lib.ListN.{length}
 use Rattle.formats.specs.Kinds.{classKind}
 use Rattle.formats.specs.Limits.{fitsMost, stepsMost}
 use Rattle.counting.specs.Tests.{all}
+use Rattle.counting.specs.Pairs.{Pair, pairNamed}
 use Rattle.frames.specs.Frames.{bodyLines, pairsIn, graphForm, stockForm, pathForm, barrierForm}
 use Rattle.frames.specs.Questions.{ask, firstNo, numbersAre}
 use Rattle.frames.specs.Shape.{shapeQuestions}
 use Rattle.frames.proofs.Questions.{chain-first, or-first, refusal-is}
 use Rattle.frames.proofs.ShapeFaults.{shape-asked}
 use Rattle.skew.specs.Graph.{Graph, nodes}
+use Rattle.matching.specs.Stock.{pairsRise}
+use Rattle.matching.proofs.LookUp.{all-found}
 use Rattle.files.specs.GraphFile as graph
 use Rattle.files.specs.GraphFile.{graphIn, graphFault, basicGraphFault, arcsFit, arcsQuestions, graphQuestions, basicArcsQuestions, basicQuestions}
 use Rattle.files.specs.StockFile as stock
-use Rattle.files.specs.StockFile.{stockIn, stockFault, pairsQuestions, stockQuestions}
+use Rattle.files.specs.StockFile.{stockIn, stockFault, pairsQuestions, stockQuestions, litQuestions}
 use Rattle.files.specs.CertificateFile.{pathArcs, pathFault, pathQuestions, namesInOrder, barrierFault, barrierQuestions}
 
 pub graph-asked : (f : List ℕ) → graphFault f ≡ firstNo (graphQuestions f)
@@ -38,6 +42,11 @@ pub stock-asked : (f : List ℕ) → stockFault f ≡ firstNo (stockQuestions f)
 stock-asked f =
     let later = ask 8 (leb (length (stockIn f .fits)) fitsMost) ∷ pairsQuestions (stockIn f .cameras) (stockIn f .fits) (stockIn f .lit) in
     or-first (shapeQuestions stockForm f (stock.headerFits f)) later refl (shape-asked stockForm f (stock.headerFits f)) (chain-first later refl)
+
+-- where fits rise, the look-up finds exactly the fits
+pub lit-asked : (n : ℕ) (fs ls : List Pair) → all (pairNamed n) fs ≡ true → all (pairNamed n) ls ≡ true → pairsRise fs ≡ true →
+    firstNo (litQuestions fs ls) ≡ firstNo (pairsQuestions n fs ls)
+lit-asked n fs ls p q e = rw (p, q, e, all-found fs ls e)
 
 pub path-asked : (g : Graph) (f : List ℕ) → pathFault g f ≡ firstNo (pathQuestions (length (g .arcs)) f)
 path-asked g f =

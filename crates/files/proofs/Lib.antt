@@ -14,6 +14,7 @@
 --   BudgetBytes      what a budget's bytes tell
 --   GraphFiles       the questions of a graph file
 --   StockFiles       the questions of a stock file
+--   PlanFiles        the questions of a plan file, and of a plan as it is written
 --   CertificateFiles the questions of a certificate
 --   FirstLines       which kind of certificate a file is, by its first line
 --   ArcTables        a graph that was read, as the search takes it
@@ -32,6 +33,7 @@ pub mod SheetBytes
 pub mod BudgetBytes
 pub mod GraphFiles
 pub mod StockFiles
+pub mod PlanFiles
 pub mod CertificateFiles
 pub mod FirstLines
 pub mod ArcTables

@@ -20,7 +20,15 @@ use Rattle.files.specs.CertificateFile.{isPathFile}
 use Rattle.files.specs.SameLines.{SameLines, TooLong, LinesTell, EndsTell, ReturnsRead}
 
 pub lines-tell : LinesTell
-lines-tell f g s = (rw (s .0, s .1, s .2), rw (s .0), rw (s .0, s .1, s .2), rw (s .0), λ h. (rw (s .0, s .1, s .2), rw (s .0)))
+lines-tell f g s = (
+  rw (s .0, s .1, s .2),
+  rw (s .0),
+  rw (s .0, s .1, s .2),
+  rw (s .0),
+  λ h. (rw (s .0, s .1, s .2), rw (s .0)),
+  λ n fs. rw (s .0, s .1, s .2),
+  rw (s .0),
+)
 
 pub ends-tell : EndsTell
 ends-tell ls ms h e p q =
@@ -36,7 +44,9 @@ returns-same z f h =
     (k .0, k .1, p ∙ sym (le-leb (length f) fileMost (omega (arith, k .2))))
 
 pub too-long : (f : List ℕ) → fileMost < length f → TooLong f
-too-long f h = let s = lt-leb (length f) fileMost h in (rw s, rw s, λ g. by-test (isPathFile f) (λ t. rw (t, s)) (λ t. rw (t, s)))
+too-long f h =
+    let s = lt-leb (length f) fileMost h in
+    (rw s, rw s, λ g. by-test (isPathFile f) (λ t. rw (t, s)) (λ t. rw (t, s)), λ n fs. rw s)
 
 pub returns-read : ReturnsRead
 returns-read z f = (λ h. lines-tell (withReturns z f) f (returns-same z f h), too-long (withReturns z f))

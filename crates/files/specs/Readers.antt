@@ -4,16 +4,18 @@
 --   GraphHeld, GraphRead            a graph: its mate pairs, its source, and its arcs by tails and heads
 --   StockTold n c k l ..            a stock's numbers beside n
 --   StockHeld, StockRead            a stock: its cameras, its fits and its lit pairs
+--   PlanHeld, PlanRead              a plan: its pairs, asked against a stock's cameras and fits
 use mathlib.Core.Path.{_≡_}
 use mathlib.Core.List.{List}
 use Prim.Native.Nat.{ℕ}
 use lib.ListN.{length}
-use Rattle.counting.specs.Pairs.{pairsOf}
+use Rattle.counting.specs.Pairs.{Pair, pairsOf}
 use Rattle.frames.specs.Questions.{answered}
 use Rattle.frames.specs.Stores.{PairsStored}
 use Rattle.files.specs.Tables.{Holds}
 use Rattle.files.specs.GraphFile.{graphIn, graphFault, arcsStored}
 use Rattle.files.specs.StockFile.{stockIn, stockFault, fitsStored, litStored}
+use Rattle.files.specs.PlanFile.{planPairs, planFault, planStored}
 
 -- A GRAPH
 abbrev pub GraphTold : (n p s a number pairs source arcs : ℕ) → Type 0
@@ -52,3 +54,13 @@ pub record StockRead (f firsts seconds ones others firstsAfter secondsAfter ones
   pub lit-are : lit ≡ answered number (length (stockIn f .lit))
   pub stores : PairsStored (fitsStored f) firsts seconds firstsAfter secondsAfter
   pub stores-lit : PairsStored (litStored f) ones others onesAfter othersAfter
+
+-- A PLAN
+pub record PlanHeld (f firsts seconds : List ℕ) (count : ℕ) : Type 0 where
+  pub room : Holds count firsts seconds
+  pub pairsAre : pairsOf count firsts seconds ≡ planPairs f
+
+pub record PlanRead (cameras : ℕ) (fits : List Pair) (f firsts seconds firstsAfter secondsAfter : List ℕ) (number count : ℕ) : Type 0 where
+  pub says : number ≡ planFault cameras fits f
+  pub counts : count ≡ answered number (length (planPairs f))
+  pub stores : PairsStored (planStored f) firsts seconds firstsAfter secondsAfter

@@ -5,6 +5,7 @@
 --   stockFault               questions 2 to 9 and 11 to 14: the number of the first answered no, 0 where there is none
 --   stockSized, pairsQuestions     questions 2 to 8, and 9 and 11 to 14 of fits and lit pairs
 --   stockQuestions           the questions of stockFault, as a list
+--   litQuestions             questions 12 to 14 of pairs against fits, 13 by the look-up (document 02, L3): where fits rise, those of pairsQuestions
 --   fitsStored, litStored    the pairs that a reader stores: the stock's where 2 to 8 are answered yes
 --   markLines, sheetText     the standing sheet, from the cameras and the fits alone
 --   sheetWith                the same frames, from a number of pairs and marks that were found
@@ -25,6 +26,7 @@ use Rattle.frames.specs.Frames.{orElse, unless, hexAt, firstLine, bodyLines, sh
 use Rattle.frames.specs.Questions.{Question, ask}
 use Rattle.frames.specs.Shape.{sizedQuestions}
 use Rattle.matching.specs.Stock.{Stock, hasPair, noneShared, greatest, marksOf, pairsRise}
+use Rattle.matching.specs.LookUp.{isFound}
 use Rattle.files.specs.Tables.{stored}
 
 abbrev pub headerFits : (file : List ℕ) → Bool
@@ -55,6 +57,9 @@ pairsQuestions n fs ls =
 
 abbrev pub stockQuestions : (file : List ℕ) → List Question
 stockQuestions f = stockSized f ++ pairsQuestions (stockIn f .cameras) (stockIn f .fits) (stockIn f .lit)
+
+abbrev pub litQuestions : (fits lit : List Pair) → List Question
+litQuestions fs ls = ask 12 (pairsRise ls) ∷ ask 13 (all (isFound fs) ls) ∷ ask 14 (noneShared ls) ∷ []
 
 abbrev pub fitsStored : (file : List ℕ) → List Pair
 fitsStored f = stored (stockSized f) (stockIn f .fits)

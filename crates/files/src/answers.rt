@@ -92,7 +92,7 @@ pub fn put_barrier(out: &mut [u8], classes: &[u8]) -> usize
     put_frame_of4(out, last, kinds::BARRIER_END, classes.len())
 }
 
-fn put_plan(out: &mut [u8], firsts: &[u8], seconds: &[u8]) -> usize
+pub fn put_plan(out: &mut [u8], firsts: &[u8], seconds: &[u8]) -> usize
     requires { ⌜ length (now seconds) ≡ length (now firsts) ⌝ }
     requires { ⌜ 12 + 7 * length (now firsts) ≤ length (now out) ⌝ }
     ensures { λ r. ⌜ Written (now (out .entry)) 0 (12 + 7 * length (now (firsts .entry))) (planText (zipPairs (now (firsts .entry)) (now (seconds .entry)))) (now (out .exit)) r ⌝ }

@@ -1,25 +1,28 @@
 // Questions 9 to 14 and 16, put to the numbers of a file that stand in lent slices (document 01, "Questions put to a call"; 16: document 02, L5). Each
-// function answers one question, by its test in the definitions.
+// function answers one question, by its test in the definitions, but the last, which answers three.
 //   are_named, are_mated     9 and 10: every number exists; each odd-numbered arc is the mate of the one before
 //   have_two_ends            16: no arc leads from a node to itself
 //   pairs_rise               11 and 12: smaller camera first, rising strictly (comes_before)
-//   are_fits                 13: each lit pair is a fit, looked up among fits that rise
+//   are_fits                 13: each lit pair is found among fits, by the look-up
 //   none_shared              14: no camera in two pairs
 //   are_below, in_order      9 of a path and of a barrier
+//   lit_fault                12 to 14, of pairs against fits: the first answered no
 use crate::look_up::look_up;
 use arcs::node::mate_of;
 use arcs::node::wide;
 use formats::limits::CLASS_MOST;
 ghost use mathlib.Core.Path.{_≡_};
-ghost use mathlib.Core.Bool.{true};
 ghost use Prim.Native.Nat.{ℕ, _≤_};
 ghost use lib.Dec.{ltb};
 ghost use lib.ListN.{length, take};
 ghost use Rattle.counting.specs.Tests.{all};
 ghost use Rattle.counting.specs.Pairs.{pair, pairsOf, pairNamed};
+ghost use Rattle.frames.specs.Questions.{firstNo};
 ghost use Rattle.skew.specs.Graph.{matesFit, hasTwoEnds};
-ghost use Rattle.matching.specs.Stock.{hasPair, noneShared, pairBefore, pairsRise};
+ghost use Rattle.matching.specs.Stock.{noneShared, pairBefore, pairsRise};
+ghost use Rattle.matching.specs.LookUp.{isFound};
 ghost use Rattle.files.specs.Tables.{Holds};
+ghost use Rattle.files.specs.StockFile.{litQuestions};
 ghost use Rattle.files.specs.CertificateFile.{namesInOrder};
 
 // 9, of arcs and of cameras: is every number of the pairs below the bound?
@@ -114,7 +117,7 @@ pub fn pairs_rise(firsts: &[u8], seconds: &[u8], count: usize) -> bool
     true
 }
 
-// 13, of fits that rise: is each lit pair a fit?
+// 13: is each lit pair found among the fits? Where fits rise, that is whether it is one of them.
 pub fn are_fits(
     firsts: &[u8],
     seconds: &[u8],
@@ -123,11 +126,11 @@ pub fn are_fits(
     others: &[u8],
     lit: usize,
 ) -> bool
-    requires { ⌜ Holds fits (now firsts) (now seconds) × Holds lit (now ones) (now others) × (pairsRise (pairsOf fits (now firsts) (now seconds)) ≡ true) ⌝ }
-    ensures { λ r. ⌜ r ≡ all (hasPair (pairsOf fits (now (firsts .entry)) (now (seconds .entry)))) (pairsOf lit (now (ones .entry)) (now (others .entry))) ⌝ }
+    requires { ⌜ Holds fits (now firsts) (now seconds) × Holds lit (now ones) (now others) ⌝ }
+    ensures { λ r. ⌜ r ≡ all (isFound (pairsOf fits (now (firsts .entry)) (now (seconds .entry)))) (pairsOf lit (now (ones .entry)) (now (others .entry))) ⌝ }
 {
     let mut i: usize = 0;
-    // invariant: the answer is `all (hasPair fits)` of what stands from i on; falls: lit pairs left
+    // invariant: the answer is `all (isFound fits)` of what stands from i on; falls: lit pairs left
     while i < lit {
         let answer = look_up(firsts, seconds, fits, ones[i], others[i]);
         if !answer.found {
@@ -195,4 +198,28 @@ pub fn in_order(nodes: &[u8], classes: &[u8], count: usize) -> bool
         i += 1;
     }
     true
+}
+
+// 12 to 14, of pairs against fits: the first answered no, or 0.
+pub fn lit_fault(
+    firsts: &[u8],
+    seconds: &[u8],
+    fits: usize,
+    ones: &[u8],
+    others: &[u8],
+    lit: usize,
+) -> u8
+    requires { ⌜ Holds fits (now firsts) (now seconds) × Holds lit (now ones) (now others) ⌝ }
+    ensures { λ r. ⌜ r ≡ firstNo (litQuestions (pairsOf fits (now (firsts .entry)) (now (seconds .entry))) (pairsOf lit (now (ones .entry)) (now (others .entry)))) ⌝ }
+{
+    if !pairs_rise(ones, others, lit) {
+        return 12;
+    }
+    if !are_fits(firsts, seconds, fits, ones, others, lit) {
+        return 13;
+    }
+    if !none_shared(ones, others, lit) {
+        return 14;
+    }
+    0
 }

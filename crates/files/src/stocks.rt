@@ -3,9 +3,8 @@
 //   pairs_fault    questions 9 and 11 to 14
 //   told           the numbers beside a number of the questions
 //   read_stock     all of them, in order
-use crate::questions::are_fits;
 use crate::questions::are_named;
-use crate::questions::none_shared;
+use crate::questions::lit_fault;
 use crate::questions::pairs_rise;
 use formats::kinds;
 use formats::limits::CAMERAS_MOST;
@@ -52,16 +51,7 @@ fn pairs_fault(
     if !pairs_rise(firsts, seconds, fits) {
         return 11;
     }
-    if !pairs_rise(ones, others, lit) {
-        return 12;
-    }
-    if !are_fits(firsts, seconds, fits, ones, others, lit) {
-        return 13;
-    }
-    if !none_shared(ones, others, lit) {
-        return 14;
-    }
-    0
+    lit_fault(firsts, seconds, fits, ones, others, lit)
 }
 
 fn told(number: u8, cameras: usize, fits: usize, lit: usize) -> Stock

@@ -4,7 +4,7 @@
 --   digit-small          the value of a digit is below 16
 --   hex-small            a number of so many digits is below 16 ^ size
 --   hex-small-part       and read in the file, where its line is digits
-use mathlib.Core.Path.{_≡_, refl, ap, _∙_}
+use mathlib.Core.Path.{_≡_, ap, _∙_}
 use mathlib.Core.Logic.{_⊎_, inl, inr}
 use mathlib.Core.Bool.{true}
 use mathlib.Core.List.{List, [], _∷_}
@@ -14,11 +14,12 @@ use native.Mathlib.Omega.{arith}
 use native.Mathlib.Numerals.{add-one}
 use lib.Dec.{leb}
 use lib.ListN.{length, getD, take, drop, length-take}
-use lib.Seq.{drop-cons, drop-drop, take-take}
+use lib.Seq.{drop-cons, drop-drop}
 use borrow.Author.Tests.{leb-true}
 use Rattle.counting.specs.Tests.{all}
 use Rattle.counting.proofs.Booleans.{and-left, and-right, or-cases, by-test}
 use Rattle.counting.proofs.Membership.{all-take, all-drop}
+use Rattle.counting.proofs.Parts.{part-front}
 use Rattle.frames.specs.Frames.{isIn, isDigit, digitOf, hexFrom, hexAt}
 use Rattle.frames.specs.Lines.{part}
 
@@ -42,14 +43,8 @@ hex-four i f h =
     omega (arith, rw e at r)
 
 -- IN A LINE and in the file
-take-part : (n i m : ℕ) (l : List ℕ) → i + n ≤ m → take n (drop i (take m l)) ≡ take n (drop i l)
-take-part n zero m l h = take-take n m l (omega arith)
-take-part n (suc i) zero l h = absurd (omega arith)
-take-part n (suc i) (suc m) [] h = refl
-take-part n (suc i) (suc m) (x ∷ xs) h = take-part n i m xs (omega arith)
-
 pub hex-part : (i n at end : ℕ) (f : List ℕ) → at + i + n ≤ end → hexAt i n (part at end f) ≡ hexAt (at + i) n f
-hex-part i n at end f h = ap (hexFrom 0) (take-part n i (end - at) (drop at f) (omega arith) ∙ ap (take n) (drop-drop i at f))
+hex-part i n at end f h = ap (hexFrom 0) (part-front n i (end - at) (drop at f) (omega arith) ∙ ap (take n) (drop-drop i at f))
 
 -- DIGITS alone
 pub digit-small : (c : ℕ) → isDigit c ≡ true → digitOf c < 16

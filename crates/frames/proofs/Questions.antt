@@ -6,6 +6,7 @@
 --   chain-first               a chain refuses with the list's first no
 --   or-first                  and so do two chains, one after the other
 --   first-none                and where nothing is refused, none of them refuses
+--   first-both                a last question of two parts refuses as the two parts, one after the other, under its number
 --   accepted                  where nothing is refused, the question of each number is answered yes
 --   refused                   where a question is answered no and every one before it yes, its number is the refusal
 --   refusal-is                the refusal is 0 or one of the numbers: what holds of those holds of it
@@ -13,15 +14,16 @@
 --   beside-same, beside-refused         the same value beside the same number; any value beside a refusal
 use mathlib.Core.Path.{_≡_, refl, ap, sym, _∙_}
 use mathlib.Core.Logic.{_≢_}
-use mathlib.Core.Bool.{Bool, true, false}
+use mathlib.Core.Bool.{Bool, true, false, _&&_}
 use mathlib.Core.List.{List, [], _∷_, _++_}
 use Prim.Native.Nat.{ℕ, _<_}
 use native.Mathlib.Omega.{arith}
 use lib.Dec.{eqb, ltb}
 use borrow.Author.Tests.{eq-eqb, ne-eqb, eqb-true, eqb-false, ltb-true}
+use Rattle.counting.specs.Tests.{pick}
 use Rattle.counting.proofs.Booleans.{and-left, and-right, by-test, true-false}
 use Rattle.frames.specs.Frames.{orElse, unless}
-use Rattle.frames.specs.Questions.{Question, firstNo, numbersAre, areNumbered, answerTo, answersBefore, answered}
+use Rattle.frames.specs.Questions.{Question, ask, firstNo, numbersAre, areNumbered, answerTo, answersBefore, answered}
 
 -- DOCUMENT 03'S CHAIN
 pub or-stop : (a b : ℕ) → a ≢ 0 → orElse a b ≡ a
@@ -73,6 +75,11 @@ or-first qs rs {a} {b} p d e =
 pub first-none : (qs rs : List Question) → areNumbered qs ≡ true → firstNo (qs ++ rs) ≡ 0 → (firstNo qs ≡ 0) × (firstNo rs ≡ 0)
 first-none [] rs p e = (refl, e)
 first-none (q ∷ qs) rs p e = let r = none-yes q qs (qs ++ rs) p e in rw (r .0) (first-none qs rs (r .1) (r .2))
+
+pub first-both : (qs : List Question) (n : ℕ) (a b : Bool) → firstNo (qs ++ ask n (a && b) ∷ []) ≡ firstNo (qs ++ ask n a ∷ ask n b ∷ [])
+first-both [] n true b = refl
+first-both [] n false b = refl
+first-both (q ∷ qs) n a b = ap (λ (m : ℕ). pick (q .answer) m (q .number)) (first-both qs n a b)
 
 pub accepted : (n : ℕ) (qs : List Question) → areNumbered qs ≡ true → firstNo qs ≡ 0 → answerTo n qs ≡ true
 accepted n [] p e = refl

@@ -3,7 +3,7 @@
 --   written-rest, written-then          the same of what two calls wrote
 --   written-over                        the same of a text written at the front
 --   hexBytes-length, hexBytes-split     digits: how many; four are the upper two and the lower two
---   two-value                           what is read of a number that was written in two digits
+--   two-value, four-value               what is read of a number that was written in two digits, and in four
 --   frame4-length, frame6-length, frameOf4-length    how many bytes a frame takes
 --   hex2-written, hex4-written          two digits as two stores; four as two writes
 --   text-step, text-written             a text written byte by byte
@@ -72,6 +72,15 @@ two-value x h =
     let a = digit-value (x / 16 % 16) (omega arith) in
     let b = digit-value (x % 16) (omega arith) in
     rw (a, b) (omega arith)
+
+pub four-value : (x : ℕ) → x < 65536 → hexFrom 0 (hexBytes 4 x) ≡ x
+unfolding hexBytes hexFrom
+four-value x h =
+    let a = digit-value (x / 16 / 16 / 16 % 16) (omega arith) in
+    let b = digit-value (x / 16 / 16 % 16) (omega arith) in
+    let c = digit-value (x / 16 % 16) (omega arith) in
+    let d = digit-value (x % 16) (omega arith) in
+    rw (a, b, c, d) (omega arith)
 
 pub hex2-written : (l : List ℕ) (at v : ℕ) →
     Written l at 2 (hexBytes 2 v) (set (set l at (digitByte (v / 16 % 16))) (at + 1) (digitByte (v % 16))) (at + 2)

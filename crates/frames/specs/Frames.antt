@@ -12,6 +12,7 @@
 --   Form                                       a kind of file: its header, body and end frames
 --   graphForm, stockForm                       graphs and stocks
 --   pathForm, barrierForm                      certificates: paths and barriers
+--   planForm                                   plans handed in
 --   isFrameOf k n l                            l is of kind k, with n digits after it
 --   firstLine f, restLines f                   the first line; those after it
 --   lastLine f, bodyLines f                    the last of those; those between
@@ -29,7 +30,7 @@ use mathlib.Core.List.{List, [], _∷_, _++_}
 use Prim.Native.Nat.{ℕ, zero, suc, _+_, _*_, _-_, _/_, _%_}
 use lib.Dec.{ltb, leb, eqb}
 use lib.ListN.{length, getD, take, drop}
-use Rattle.formats.specs.Kinds.{arcKind, barrierEnd, barrierKind, classKind, fitKind, graphEnd, graphKind, litKind, pathEnd, pathKind, stepKind, stockEnd, stockKind}
+use Rattle.formats.specs.Kinds.{arcKind, barrierEnd, barrierKind, classKind, fitKind, graphEnd, graphKind, litKind, pairKind, pathEnd, pathKind, planEnd, planKind, stepKind, stockEnd, stockKind}
 use Rattle.formats.specs.Limits.{fileMost}
 use Rattle.counting.specs.Tests.{pick, all}
 use Rattle.counting.specs.Pairs.{Pair, pair}
@@ -103,6 +104,9 @@ pathForm = record { header = pathKind; headerSize = 0; bodies = stepKind ∷ [];
 
 abbrev pub barrierForm : Form
 barrierForm = record { header = barrierKind; headerSize = 0; bodies = classKind ∷ []; bodySize = 4; end = barrierEnd }
+
+abbrev pub planForm : Form
+planForm = record { header = planKind; headerSize = 2; bodies = pairKind ∷ []; bodySize = 4; end = planEnd }
 
 abbrev pub isFrameOf : (kind size : ℕ) → List ℕ → Bool
 isFrameOf k n l = eqb (kindOf l) k && eqb (length l) (2 + n)

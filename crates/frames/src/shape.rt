@@ -1,11 +1,12 @@
 // Questions 2 to 4 and 6, 7: the shape of a file, the same for every kind of file. The header is read first, then the caller asks question 5 of its
 // numbers, then the body is read; a file that has no question 5 is read in one step.
-//   Layout, GRAPH, STOCK, PATH, BARRIER      a kind of file, and the four
+//   Layout, GRAPH, STOCK, PATH, BARRIER, PLAN    a kind of file, and the five
 //   is_frame, end_fault                      a line as a frame of a kind, and as the end frame
 //   Body, told, body_of, body_from           questions 6 and 7, over the slice from the second line on
 //   Header, header_of                        questions 2, 3 and 4
 //   graph_header, graph_body, stock_header, stock_body      the two steps of a graph file and of a stock file
-//   Shape, no_shape, shape_of, path_shape, barrier_shape    both steps of a certificate
+//   Shape, no_shape, shape_of                both steps of a file that has no question 5
+//   path_shape, barrier_shape, plan_shape    those of a path, a barrier and a plan
 use crate::lines::line_at;
 use crate::lines::whole;
 use crate::numbers::hex2;
@@ -15,7 +16,7 @@ use formats::limits::FILE_MOST;
 ghost use mathlib.Core.Path.{_≡_};
 ghost use Prim.Native.Nat.{_≤_};
 ghost use lib.ListN.{length, drop};
-ghost use Rattle.frames.specs.Frames.{isFrameOf, graphForm, stockForm, pathForm, barrierForm};
+ghost use Rattle.frames.specs.Frames.{isFrameOf, graphForm, stockForm, pathForm, barrierForm, planForm};
 ghost use Rattle.frames.specs.Lines.{part};
 ghost use Rattle.frames.specs.Shape.{formOf, endFault, Counted, HeaderAnswer, BodyAnswer, ShapeAnswer};
 
@@ -65,6 +66,15 @@ const BARRIER: Layout = Layout {
     second: kinds::CLASS,
     body_size: 4,
     end: kinds::BARRIER_END,
+};
+
+const PLAN: Layout = Layout {
+    header: kinds::PLAN,
+    header_size: 2,
+    first: kinds::PAIR,
+    second: kinds::PAIR,
+    body_size: 4,
+    end: kinds::PLAN_END,
 };
 
 // Is the line from `at` up to `end` a frame of this kind, with so many digits after the kind?
@@ -275,4 +285,11 @@ pub fn barrier_shape(f: &[u8]) -> Shape
     ensures { λ r. ⌜ ShapeAnswer barrierForm (now (f .entry)) (r .number) (r .next) (r .count) ⌝ }
 {
     shape_of(f, BARRIER)
+}
+
+// The shape of a plan.
+pub fn plan_shape(f: &[u8]) -> Shape
+    ensures { λ r. ⌜ ShapeAnswer planForm (now (f .entry)) (r .number) (r .next) (r .count) ⌝ }
+{
+    shape_of(f, PLAN)
 }

@@ -2,7 +2,8 @@
 // wrote, so that a run of calls writes a run of frames.
 //   digit_byte, put_hex2, put_hex4, put_line_feed             the parts of a frame
 //   put_frame2, put_frame4, put_frame6, put_frame8, put_frame_of4     frames
-//   put_text, begins_with, put_barrier_line, begins_barrier   the first line of a barrier, written and compared
+//   put_text, begins_with                                     the bytes of a text, written and compared
+//   put_barrier_line, begins_barrier                          the first line of a barrier, written and compared
 ghost use mathlib.Core.Path.{_≡_};
 ghost use mathlib.Core.List.{[], _∷_};
 ghost use Prim.Native.Nat.{_+_, _<_, _≤_};
@@ -103,7 +104,7 @@ pub fn put_frame_of4(out: &mut [u8], at: usize, kind: usize, value: usize) -> us
 }
 
 // All bytes of `text`.
-fn put_text(out: &mut [u8], at: usize, text: &[u8]) -> usize
+pub fn put_text(out: &mut [u8], at: usize, text: &[u8]) -> usize
     requires { ⌜ at + length (now text) ≤ length (now out) ⌝ }
     ensures { λ r. ⌜ Written (now (out .entry)) at (length (now (text .entry))) (now (text .entry)) (now (out .exit)) r ⌝ }
 {

@@ -1,5 +1,5 @@
 /* The pairing engine's calls, in liblanes_c.a (document 01, "Questions put to a call"; document 02: lanes_budget L4, refusal 16 L5, lanes_stock L6,
- * callers L7).
+ * callers L7, kept pairings L8).
  *
  * A file and a buffer are a pointer and a number of bytes, each readable (a buffer also writable) over its whole length during the call; a buffer
  * overlaps neither the file nor the tally. No pointer is null. A call keeps nothing behind; calls that run at once, in several threads, take a buffer and a
@@ -66,6 +66,37 @@ uint64_t lanes_budget(const uint8_t *file, size_t file_size, uint32_t caller, ui
 /* A graph file and a certificate, a path or a barrier: 1 for yes, 0 for no, otherwise the refusal, which is 2 or more: the graph's number (2 to 10 or 16), or
  * the certificate's with 40 added. */
 uint8_t lanes_check(const uint8_t *graph, size_t graph_size, const uint8_t *certificate, size_t certificate_size);
+
+/* Pairings kept under names, for one stock. The state is a block of LANES_STATE bytes that the caller keeps and lends to each call; it may be copied or
+ * stored like any bytes. lanes_power_on sets it to what it is before the first stock: the stock without cameras, and no names (so do zeros). From there
+ * on only these calls change it. It overlaps neither file nor buffer; calls that run at once take a state each. They name no caller and enter no tally.
+ *
+ *   uint8_t state[LANES_STATE];
+ *   lanes_power_on(state);
+ *   if (lanes_bring(state, stock, stock_size) == 0 && lanes_keep(state, 'A', plan, plan_size) == 0) ..
+ *   uint64_t told = lanes_come_back(state, 'A', out, sizeof out);
+ *
+ * Up to LANES_NAMES pairings are kept, each under a name of one byte; every byte is a name. A refused call changes no byte of the state. */
+#define LANES_STATE 8828
+#define LANES_NAMES 8
+
+void lanes_power_on(uint8_t state[LANES_STATE]);
+
+/* A stock file becomes the present stock, and no name is kept then, also if it is the same stock again. Its lit pairs are not kept. 0, or the refusal:
+ * 2 to 9 and 11 to 14. */
+uint8_t lanes_bring(uint8_t state[LANES_STATE], const uint8_t *file, size_t file_size);
+
+/* A plan file, as lanes_stock writes one at the front of its answer (12 + 7 * PP bytes): header 51PP, lines 52UUVV, end 5FCCCC. Its pairs are kept under
+ * the name, in place of those that stood there. They are to be fits of the present stock, no camera in two, but need not be as many as possible. 0, or the
+ * refusal: 2, 3, 4, 6, 7 (CCCC and PP are both the number of pair lines), 9, 12, 13, 14, or 19 where the name is new and LANES_NAMES are kept. */
+uint8_t lanes_keep(uint8_t state[LANES_STATE], uint8_t name, const uint8_t *file, size_t file_size);
+
+/* The pairs last kept under the name, in plan frames at the buffer's front. Returns what the other calls with a buffer return: LANES_NUMBER, 1 or 18 (the name
+ * is not kept), and LANES_SIZE. */
+uint64_t lanes_come_back(const uint8_t state[LANES_STATE], uint8_t name, uint8_t *out, size_t out_size);
+
+/* The name is kept no longer, and its place can be used again. 0, or 18. */
+uint8_t lanes_forget(uint8_t state[LANES_STATE], uint8_t name);
 
 #ifdef __cplusplus
 }

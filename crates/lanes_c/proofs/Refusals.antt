@@ -5,6 +5,7 @@
 --   refused-high, says-which     so a refusal is 2 or more, and what is said of such a verdict tells it
 --   check-tells                  what the check says tells its verdict
 --   unpacks, calls-tell          number and size can be read off a call's result
+--   back-tells                   and off what coming back to a kept pairing returns
 --   budget-tells                 and the searches off the budgeted call's
 use mathlib.Core.Path.{_≡_, refl, ap}
 use mathlib.Core.Bool.{Bool, true, _||_, or-true}
@@ -12,8 +13,9 @@ use mathlib.Core.List.{List}
 use Prim.Native.Nat.{ℕ, _+_, _≤_, _<_}
 use native.Mathlib.Omega.{arith}
 use lib.Dec.{leb, eqb}
+use lib.ListN.{length}
 use borrow.Author.Tests.{le-leb, leb-true}
-use Rattle.formats.specs.Limits.{searchesMost}
+use Rattle.formats.specs.Limits.{room, searchesMost}
 use Rattle.counting.proofs.Booleans.{by-test}
 use Rattle.frames.specs.Frames.{orElse}
 use Rattle.files.specs.GraphFile.{graphIn, graphFault}
@@ -24,7 +26,9 @@ use Rattle.lanes.specs.Entry.{told, callFault, answerFault, stockCallFault, che
 use Rattle.lanes.proofs.CallFaults.{call-is}
 use Rattle.lanes.specs.declared.Verdict.{Verdict}
 use Rattle.lanes.specs.declared.Verdict.the-variants.{Refused, Yes, No}
-use Rattle.lanes_c.specs.Exported.{Unpacks, CallsTell, UnpacksSearched, BudgetTells, said, SaysWhich, CheckTells}
+use Rattle.kept.specs.State.{isKept, comeBack, faultOf}
+use Rattle.kept.specs.Block.{stateOf, textOf}
+use Rattle.lanes_c.specs.Exported.{Unpacks, CallsTell, BackTells, UnpacksSearched, BudgetTells, said, SaysWhich, CheckTells}
 
 abbrev noneOrHigh : ℕ → Bool
 noneOrHigh n = eqb n 0 || leb 2 n
@@ -66,6 +70,11 @@ calls-tell c f n k = (
   unpacks (answerFault c f n) k (call-low c n (graphFault f) (graph-refusal f (λ (m : ℕ). leb m 255) refl refl)),
   unpacks (stockCallFault c f n) k (call-low c n (stockFault f) (stock-refusal f (λ (m : ℕ). leb m 255) refl refl)),
 )
+
+pub back-tells : BackTells
+back-tells b n k =
+    unpacks (faultOf (stateOf b) (comeBack n k)) (length (textOf b (comeBack n k)))
+    (by-test (leb room k) (λ t. by-test (isKept (stateOf b) n) (λ u. rw (t, u)) (λ u. rw (t, u))) (λ t. rw t))
 
 unpacks-searched : (n k j : ℕ) → leb n 255 ≡ true → k < 4294967296 → UnpacksSearched (searched n k j)
 unpacks-searched n k j h small =

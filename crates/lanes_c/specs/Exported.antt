@@ -10,6 +10,7 @@
 --   SaysWhich verdict, CheckTells                     1 is said of yes alone and 0 of no alone, a refusal is 2 or more; so it is of every verdict of the check
 --   Unpacks told, CallsTell                           number and size can be read off a call's result, the size also with what is above it masked; so it is
 --                                                     of the graph call and of the stock call
+--   BackTells                                         so it is of coming back to a kept pairing (document 02, L8)
 --   UnpacksSearched searched, BudgetTells             and the searches too; so it is of the budgeted call
 --   Called pack Owes tally result after counts        what a call tells and leaves is owed, and the tally is as given
 --   CountsFollow                                      so the sixteen counts after a call are those of the tally after it, for the next call to begin with;
@@ -23,6 +24,8 @@ use lib.ListN.{length, getD, replicate}
 use Rattle.lanes.specs.Entry.{told, answerFault, stockCallFault, checkPost, budgetFault, searched}
 use Rattle.lanes.specs.Tallies.{countsOf, Call, tallyAfter}
 use Rattle.lanes.specs.CallerPromise.{HasFour, countOf, isCounted, zeros}
+use Rattle.kept.specs.State.{comeBack}
+use Rattle.kept.specs.Block.{toldOf}
 use Rattle.lanes.specs.declared.Counts.{Counts}
 use Rattle.lanes.specs.declared.Tally.{Tally}
 use Rattle.lanes.specs.declared.Told.{Told}
@@ -64,6 +67,9 @@ Unpacks r =
 abbrev pub CallsTell : Type 0
 CallsTell =
     (caller : ℕ) (file : List ℕ) (lent size : ℕ) → Unpacks (told (answerFault caller file lent) size) × Unpacks (told (stockCallFault caller file lent) size)
+
+abbrev pub BackTells : Type 0
+BackTells = (block : List ℕ) (name lent : ℕ) → Unpacks (toldOf block (comeBack name lent))
 
 -- 2 to the power of 32, and of 40
 abbrev pub packedSearched : Searched → ℕ

@@ -1,9 +1,16 @@
 // The engine's calls for C and Rust (document 01, "Questions put to a call"), over numbers and slices alone; include/lanes.h declares them for C.
 //   lanes_graph, lanes_stock, lanes_budget, lanes_check  the calls
+//   lanes_power_on, lanes_bring, lanes_keep, lanes_come_back, lanes_forget     those of kept pairings (document 02, L8), over a lent state
 //   counts_at, tally_of                                  four of the sixteen counts as a caller's, and all as a tally
 //   put_tally                                            a tally as sixteen counts
 //   count                                                one more of the caller's count that an outcome names
 //   pack, pack_searched                                  a call's result as one number; the budgeted call's
+use kept::STATE;
+use kept::bring;
+use kept::come_back;
+use kept::forget;
+use kept::keep;
+use kept::power_on;
 use lanes::Counts;
 use lanes::Outcome;
 use lanes::Searched;
@@ -17,9 +24,12 @@ use lanes::stock_calls::stock_by;
 use lanes::tallies::counted;
 ghost use mathlib.Core.Path.{_≡_};
 ghost use Prim.Native.Nat.{_≤_};
-ghost use lib.ListN.{length};
+ghost use lib.ListN.{length, replicate};
 ghost use Rattle.lanes.specs.Entry.{GraphOwes, StockOwes, BudgetOwes, checkPost};
 ghost use Rattle.lanes.specs.Tallies.{call, graph, stock, budget, tallied, tallyAfter};
+ghost use Rattle.kept.specs.State.{bring, keepAs, comeBack, forget};
+ghost use Rattle.kept.specs.Block.{blockSize, toldOf, textOf, Owes};
+ghost use Rattle.files.specs.Answers.{over};
 ghost use Rattle.lanes_c.specs.Exported.{countsAt, tallyOf, allCounts, packed, packedSearched, said, Called};
 
 fn counts_at(all: &[u32; 16], at: usize) -> Counts
@@ -149,4 +159,41 @@ pub extern "C" fn lanes_check(graph: &[u8], cert: &[u8]) -> u8
         Verdict::Yes => 1,
         Verdict::No => 0,
     }
+}
+
+#[no_mangle]
+pub extern "C" fn lanes_power_on(state: &mut [u8; STATE])
+    ensures { λ _. ⌜ now (state .exit) ≡ replicate blockSize 0 ⌝ }
+{
+    power_on(state);
+}
+
+#[no_mangle]
+pub extern "C" fn lanes_bring(state: &mut [u8; STATE], file: &[u8]) -> u8
+    ensures { λ r. ⌜ Owes (now (state .entry)) (bring (now (file .entry))) r (now (state .exit)) ⌝ }
+{
+    bring(state, file)
+}
+
+#[no_mangle]
+pub extern "C" fn lanes_keep(state: &mut [u8; STATE], name: u8, file: &[u8]) -> u8
+    ensures { λ r. ⌜ Owes (now (state .entry)) (keepAs name (now (file .entry))) r (now (state .exit)) ⌝ }
+{
+    keep(state, name, file)
+}
+
+#[no_mangle]
+pub extern "C" fn lanes_come_back(state: &[u8; STATE], name: u8, out: &mut [u8]) -> u64
+    ensures { λ r. ⌜ r ≡ packed (toldOf (now (state .entry)) (comeBack name (length (now (out .entry))))) ⌝ }
+    ensures bytes { λ r. ⌜ now (out .exit) ≡ over (textOf (now (state .entry)) (comeBack name (length (now (out .entry))))) (now (out .entry)) ⌝ }
+{
+    let told = come_back(state, name, out);
+    pack(told)
+}
+
+#[no_mangle]
+pub extern "C" fn lanes_forget(state: &mut [u8; STATE], name: u8) -> u8
+    ensures { λ r. ⌜ Owes (now (state .entry)) (forget name) r (now (state .exit)) ⌝ }
+{
+    forget(state, name)
 }

@@ -4,22 +4,23 @@
 --   look-counts                  LookCounts: the number by places
 --   look-bounded, look-passes    LookBounded and LookPasses, by those places
 --   found-last                   FoundLast
---   look-finds                   LookFinds
+--   look-finds, all-found        LookFinds; so where fits rise, all pairs of a list are found exactly if all are fits
 --   known-look-ups               KnownLookUps
-use mathlib.Core.Path.{_≡_, refl, sym, ap, subst, _∙_}
+use mathlib.Core.Path.{_≡_, refl, sym, ap, subst, fun-ext, _∙_}
 use mathlib.Core.Logic.{_⊎_, inl, inr, ⊎-elim}
-use mathlib.Core.Bool.{true, false, or-false}
+use mathlib.Core.Bool.{Bool, true, false, or-false}
 use mathlib.Core.List.{List, [], _∷_}
 use Prim.Native.Nat.{ℕ, zero, suc, _≤_, _<_}
 use native.Mathlib.Omega.{arith}
 use lib.Dec.{ltb}
 use lib.ListN.{getD}
 use borrow.Author.Tests.{ltb-true, ltb-false}
+use Rattle.counting.specs.Tests.{all}
 use Rattle.counting.specs.Lists.{In}
 use Rattle.counting.specs.Pairs.{Pair, noPair}
 use Rattle.counting.proofs.Membership.{getD-in}
 use Rattle.counting.proofs.Booleans.{by-test, test-same, true-false}
-use Rattle.matching.specs.Stock.{samePair, hasPair, pairBefore}
+use Rattle.matching.specs.Stock.{samePair, hasPair, pairBefore, pairsRise}
 use Rattle.matching.specs.Pairs.{Before, Rising}
 use Rattle.matching.specs.LookUp.{lookedAt, looked, isFound, EqualOrLarger, EndsAt, LooksUpTo, LookCounts, LookBounded, LookPasses, FoundLast, LookFinds, KnownLookUps}
 use Rattle.matching.proofs.Pairs.{same-is, is-same, has-pair-in, in-has-pair}
@@ -140,6 +141,9 @@ look-finds fs x e =
     let l = look-bounded fs x .0 in
     in-has-pair fs x (subst (λ (z : Pair). In z fs) (r .2) (getD-in fs noPair (r .0) (omega (arith, r .1)))))
     (λ t. in-found fs x (rise-rising fs e) (has-pair-in fs x t))
+
+pub all-found : (fs ps : List Pair) → pairsRise fs ≡ true → all (isFound fs) ps ≡ all (hasPair fs) ps
+all-found fs ps e = ap (λ (h : Pair → Bool). all h ps) (fun-ext (λ x. look-finds fs x e))
 
 pub known-look-ups : KnownLookUps
 unfolding lookedAt hasPair

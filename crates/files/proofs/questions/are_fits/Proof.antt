@@ -5,9 +5,8 @@ use native.Mathlib.Omega.{arith}
 use borrow.Author.Tests.{not-true, not-false}
 use lib.ListN.{drop}
 use Rattle.counting.specs.Tests.{all}
-use Rattle.matching.specs.Stock.{hasPair}
 use Rattle.counting.specs.Pairs.{pairsOf}
-use Rattle.matching.proofs.LookUp.{look-finds}
+use Rattle.matching.specs.LookUp.{isFound}
 use Rattle.files.proofs.PairScans.{all-end, all-step, all-stop}
 use Rattle.files.proofs.questions.are_fits.Statement.{statement}
 use Rattle.files.proofs.questions.are_fits.Tie as tie
@@ -15,7 +14,7 @@ use borrow.Author.Needs.{needs}
 
 abbrev Inv-loop : tie.InvT-loop
 Inv-loop firsts seconds fits ones others lit i₀ i =
-    (i ≤ lit) × (all (hasPair (pairsOf fits firsts seconds)) (pairsOf lit ones others) ≡ all (hasPair (pairsOf fits firsts seconds)) (drop i (pairsOf lit ones others)))
+    (i ≤ lit) × (all (isFound (pairsOf fits firsts seconds)) (pairsOf lit ones others) ≡ all (isFound (pairsOf fits firsts seconds)) (drop i (pairsOf lit ones others)))
 
 abbrev μ-loop : tie.MeasureT-loop
 μ-loop firsts seconds fits ones others lit i₀ i = lit - i
@@ -25,15 +24,15 @@ loop-holds c = (omega arith, refl)
 
 returns : tie.Need-returns Inv-loop μ-loop
 returns c =
-    sym (c .before .before .before .before .before .before .loop .inv .1 ∙ all-stop (c .before .before .before .before .before .before .before .before .before .before .before .pre .1) _ (c .before .before .before .before .before .loop-test .taken) (hasPair _) (sym (c .before .before .look-up .ensures .answer ∙ look-finds _ _ (c .before .before .before .before .before .before .before .before .before .before .before .pre .2)) ∙ not-true _ (c .if1 .taken)))
+    sym (c .before .before .before .before .before .before .loop .inv .1 ∙ all-stop (c .before .before .before .before .before .before .before .before .before .before .before .pre .1) _ (c .before .before .before .before .before .loop-test .taken) (isFound _) (sym (c .before .before .look-up .ensures .answer) ∙ not-true _ (c .if1 .taken)))
 
 loop-again : tie.Need-loop-again Inv-loop μ-loop
 loop-again c =
-    (omega arith, c .before .before .before .before .before .before .loop .inv .1 ∙ all-step (c .before .before .before .before .before .before .before .before .before .before .before .pre .1) _ (c .before .before .before .before .before .loop-test .taken) (hasPair _) (sym (c .before .before .look-up .ensures .answer ∙ look-finds _ _ (c .before .before .before .before .before .before .before .before .before .before .before .pre .2)) ∙ not-false _ (c .if1 .left)))
+    (omega arith, c .before .before .before .before .before .before .loop .inv .1 ∙ all-step (c .before .before .before .before .before .before .before .before .before .before .before .pre .1) _ (c .before .before .before .before .before .loop-test .taken) (isFound _) (sym (c .before .before .look-up .ensures .answer) ∙ not-false _ (c .if1 .left)))
 
 returns-2 : tie.Need-returns-2 Inv-loop μ-loop
 returns-2 c =
-    sym (c .before .loop .inv .1 ∙ all-end (c .before .before .before .before .before .before .pre .1) _ (hasPair _) (c .loop-test .left))
+    sym (c .before .loop .inv .1 ∙ all-end (c .before .before .before .before .before .before .pre .1) _ (isFound _) (c .loop-test .left))
 
 pub are-fits-spec : {M : Type 1} → statement M
 are-fits-spec =
