@@ -9,6 +9,7 @@
 //!                    held to the numbers of calls
 //!   others_between   the same calls without those of other callers, and with others put between: a caller's counts are the same
 //!   same_answers     what each caller gets, where it is not left free
+//!   some_sent        some call of some caller, or a check
 //! In the last two tallies and answers are compared as the engine gave them, whatever the trial says of them.
 
 use crate::cases::by_trial;
@@ -238,7 +239,7 @@ fn some_file(random: &mut Random, call: Call) -> Vec<u8> {
     }
 }
 
-fn some_sent(random: &mut Random) -> Sent {
+pub fn some_sent(random: &mut Random) -> Sent {
     if random.chance(10) {
         let certificate = random.choose(&[barrier_file(&[1, 2]), path_file(&[0]), Vec::new()]).clone();
         return Sent::Check { graph: random.choose(&[BARRED, OPEN, b""]).to_vec(), certificate };

@@ -4,9 +4,12 @@
 //!   Told, Verdict            a call's refusal number and answer size; what the check says
 //!   Searched                 what a call with a budget tells: the same, and the number of searches
 //!   Fit, Looked              two cameras as the look-up takes them; what it answers
-//!   Engine                   the four calls, and the look-up
+//!   Engine                   the four calls, the look-up, and states of kept pairings
+//!   Kept                     a state of kept pairings (document 02, L8): a block that is lent to each of its calls
+//!   KeptCall, KeptKind       one of these calls, and which of them
 //!   Call, CallKind           a call that names its caller, which an engine can be made to answer; the same, whatever budget it has
 //!   linked, Library          the proved engine in its static libraries (only where they are linked, see build.rs)
+//!   State                    the proved engine's block of kept pairings, as a Rust program holds it (there too)
 
 #[derive(Clone, Copy, Debug, Default, PartialEq)]
 pub struct Counts {
@@ -94,6 +97,85 @@ pub trait Engine {
     fn check(&self, graph: &[u8], certificate: &[u8]) -> Verdict;
     /// A pair sought among fits: their first cameras stand in one slice, their second ones in the other, up to the shorter length.
     fn look_up(&self, firsts: &[u8], seconds: &[u8], sought: Fit) -> Looked;
+    /// A state set to power-on, whatever bytes stood in its block.
+    fn power_on(&self) -> Box<dyn Kept + '_>;
+    /// A block of zero bytes, which is power-on too.
+    fn zero_bytes(&self) -> Box<dyn Kept + '_>;
+}
+
+/// Up to eight pairings of one stock, under names of one byte. The calls tell 0, or the number of the first question answered no; they name
+/// no caller and have no tally.
+pub trait Kept {
+    /// Set to power-on again, over what stands there.
+    fn power_on(&mut self);
+    /// A new stock, without names.
+    fn bring(&mut self, file: &[u8]) -> u8;
+    /// The pairs of a file of plan frames, under a name.
+    fn keep(&mut self, name: u8, file: &[u8]) -> u8;
+    fn forget(&mut self, name: u8) -> u8;
+    /// The pairs last kept under a name, in plan frames.
+    fn come_back(&mut self, name: u8, out: &mut [u8]) -> Told;
+    /// The same bytes in another block, at another address.
+    fn copied<'a>(&self) -> Box<dyn Kept + 'a>
+    where
+        Self: 'a;
+}
+
+#[derive(Clone, Debug, PartialEq)]
+pub enum KeptCall {
+    Bring(Vec<u8>),
+    Keep(u8, Vec<u8>),
+    /// with the room that is lent
+    ComeBack(u8, usize),
+    Forget(u8),
+}
+
+#[derive(Clone, Copy, Debug, PartialEq, Eq, PartialOrd, Ord)]
+pub enum KeptKind {
+    Bring,
+    Keep,
+    ComeBack,
+    Forget,
+}
+
+pub const KEPT_KINDS: [KeptKind; 4] = [KeptKind::Bring, KeptKind::Keep, KeptKind::ComeBack, KeptKind::Forget];
+
+impl KeptCall {
+    pub fn kind(&self) -> KeptKind {
+        match self {
+            KeptCall::Bring(_) => KeptKind::Bring,
+            KeptCall::Keep(..) => KeptKind::Keep,
+            KeptCall::ComeBack(..) => KeptKind::ComeBack,
+            KeptCall::Forget(_) => KeptKind::Forget,
+        }
+    }
+
+    /// A stock has none.
+    pub fn name(&self) -> Option<u8> {
+        match self {
+            KeptCall::Bring(_) => None,
+            KeptCall::Keep(name, _) | KeptCall::ComeBack(name, _) | KeptCall::Forget(name) => Some(*name),
+        }
+    }
+
+    /// What is handed in, nothing where no file is.
+    pub fn file(&self) -> &[u8] {
+        match self {
+            KeptCall::Bring(file) | KeptCall::Keep(_, file) => file,
+            KeptCall::ComeBack(..) | KeptCall::Forget(_) => &[],
+        }
+    }
+
+    /// With a file in the place of its own, and a buffer of its room; only coming back writes there.
+    pub fn by(&self, state: &mut dyn Kept, file: &[u8], out: &mut [u8]) -> Told {
+        let number = match self {
+            KeptCall::Bring(_) => state.bring(file),
+            KeptCall::Keep(name, _) => state.keep(*name, file),
+            KeptCall::Forget(name) => state.forget(*name),
+            KeptCall::ComeBack(name, _) => return state.come_back(*name, out),
+        };
+        Told { number, size: 0 }
+    }
 }
 
 #[derive(Clone, Copy, Debug, PartialEq)]
@@ -151,9 +233,10 @@ pub fn linked() -> Option<(Box<dyn Engine>, &'static str)> {
 /// The call with a budget returns the size in bits 8 to 39 and the number of searches above.
 /// The check returns 1 for yes, 0 for no, and otherwise the refusal, which is never below 2.
 /// The look-up returns 1 where the pair is found, 0 where not, and writes how many fits it looked at.
+/// The calls for kept pairings return 0 or the refusal, and coming back the size above it, in bits 8 to 39; each is lent the block.
 #[cfg(lanes_library)]
-mod library {
-    use super::{AllCounts, Engine, Fit, Looked, Searched, Tally, Told, Verdict, CALLERS, OF_EACH};
+pub mod library {
+    use super::{AllCounts, Engine, Fit, Kept, Looked, Searched, Tally, Told, Verdict, CALLERS, OF_EACH};
 
     type Function = unsafe extern "C" fn(*const u8, usize, u32, *mut u8, usize, *mut AllCounts) -> u64;
 
@@ -181,6 +264,11 @@ mod library {
             second: u8,
             looked: *mut [u64; 1],
         ) -> u8;
+        fn lanes_power_on(state: *mut u8);
+        fn lanes_bring(state: *mut u8, file: *const u8, file_len: usize) -> u8;
+        fn lanes_keep(state: *mut u8, name: u8, file: *const u8, file_len: usize) -> u8;
+        fn lanes_forget(state: *mut u8, name: u8) -> u8;
+        fn lanes_come_back(state: *const u8, name: u8, out: *mut u8, out_len: usize) -> u64;
     }
 
     pub struct Library;
@@ -251,6 +339,134 @@ mod library {
             assert!(said <= 1, "the look-up returns {said}");
             assert!(before == UNTOUCHED && after == UNTOUCHED, "the look-up writes beside its number");
             Looked { found: said == 1, looked }
+        }
+
+        fn power_on(&self) -> Box<dyn Kept + '_> {
+            Box::new(State::power_on())
+        }
+
+        fn zero_bytes(&self) -> Box<dyn Kept + '_> {
+            Box::new(State::zero_bytes())
+        }
+    }
+
+    // ---- kept pairings
+
+    /// The bytes of a block (LANES_STATE).
+    pub const STATE: usize = 8_828;
+
+    /// Bytes before and behind a block that no call may touch, and what stands in them.
+    const GUARD: usize = 512;
+    const GUARDED: u8 = 0xA5;
+
+    /// A block may stand at any address: a copy stands one byte further on, up to this many.
+    const ADDRESSES: usize = 16;
+
+    /// The block that is lent to the calls for kept pairings. Only these calls change it, so a Rust program holds it as a value: it may be
+    /// moved and copied, and each copy goes on by itself. Such a program needs the 8,828 bytes alone; here bytes stand around them, and each
+    /// call is held to leave those as they are, and a refused one the block too.
+    #[derive(Clone)]
+    pub struct State {
+        bytes: Vec<u8>,
+        start: usize,
+    }
+
+    impl State {
+        pub fn power_on() -> State {
+            let mut state = State::filled(GUARDED, GUARD);
+            state.set_to_power_on();
+            state
+        }
+
+        pub fn zero_bytes() -> State {
+            State::filled(0, GUARD)
+        }
+
+        fn filled(byte: u8, start: usize) -> State {
+            let mut bytes = vec![GUARDED; start + STATE + GUARD];
+            bytes[start..start + STATE].fill(byte);
+            State { bytes, start }
+        }
+
+        fn block(&self) -> &[u8] {
+            &self.bytes[self.start..self.start + STATE]
+        }
+
+        /// The same bytes, further on.
+        fn moved(&self) -> State {
+            let mut other = State::filled(0, GUARD + (self.start - GUARD + 1) % ADDRESSES);
+            let start = other.start;
+            other.bytes[start..start + STATE].copy_from_slice(self.block());
+            other
+        }
+
+        /// Something done with the block; what it tells.
+        fn lent<T>(&mut self, done: impl FnOnce(*mut u8) -> T) -> T {
+            // the block is the part in the middle
+            let told = done(unsafe { self.bytes.as_mut_ptr().add(self.start) });
+            let beside = self.bytes[..self.start].iter().chain(&self.bytes[self.start + STATE..]);
+            assert!(beside.into_iter().all(|byte| *byte == GUARDED), "a call writes beside the block that is lent to it");
+            told
+        }
+
+        /// The same, of a call that leaves the block as it is where it refuses.
+        fn asked(&mut self, call: impl FnOnce(*mut u8) -> u8) -> u8 {
+            let before = self.block().to_vec();
+            let number = self.lent(call);
+            assert!(number == 0 || before == self.block(), "refusal {number} changes the block");
+            number
+        }
+
+        pub fn set_to_power_on(&mut self) {
+            // the pointer is that of a block of STATE bytes, here and below
+            self.lent(|block| unsafe { lanes_power_on(block) })
+        }
+
+        pub fn bring(&mut self, file: &[u8]) -> u8 {
+            self.asked(|block| unsafe { lanes_bring(block, file.as_ptr(), file.len()) })
+        }
+
+        pub fn keep(&mut self, name: u8, file: &[u8]) -> u8 {
+            self.asked(|block| unsafe { lanes_keep(block, name, file.as_ptr(), file.len()) })
+        }
+
+        pub fn forget(&mut self, name: u8) -> u8 {
+            self.asked(|block| unsafe { lanes_forget(block, name) })
+        }
+
+        /// The answer stands at the front of the buffer. The block is not changed.
+        pub fn come_back(&self, name: u8, out: &mut [u8]) -> Told {
+            let mut lent = self.clone();
+            let told = lent.lent(|block| unsafe { lanes_come_back(block, name, out.as_mut_ptr(), out.len()) });
+            assert!(lent.block() == self.block(), "coming back changes the block");
+            assert!(told >> 40 == 0, "coming back tells more than a number and a size: {told:X}");
+            Told { number: told as u8, size: (told >> 8) as usize }
+        }
+    }
+
+    impl Kept for State {
+        fn power_on(&mut self) {
+            self.set_to_power_on();
+        }
+
+        fn bring(&mut self, file: &[u8]) -> u8 {
+            State::bring(self, file)
+        }
+
+        fn keep(&mut self, name: u8, file: &[u8]) -> u8 {
+            State::keep(self, name, file)
+        }
+
+        fn forget(&mut self, name: u8) -> u8 {
+            State::forget(self, name)
+        }
+
+        fn come_back(&mut self, name: u8, out: &mut [u8]) -> Told {
+            State::come_back(self, name, out)
+        }
+
+        fn copied<'a>(&self) -> Box<dyn Kept + 'a> {
+            Box::new(self.moved())
         }
     }
 }

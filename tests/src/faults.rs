@@ -2,14 +2,16 @@
 //!   Kind                  graph, stock, path, barrier
 //!   questions             the questions put to a kind, in the order of documents 01 and 02
 //!   failing               a file of which the first question answered no is the first given, and the others given are answered no too
-//!   graph_for_certificates    the graph beside which faulty certificates are made
+//!   failing_plan          a plan file likewise, which is handed in to be kept (document 02, L8)
+//!   graph_for_certificates, stock_for_plans    the graph beside which faulty certificates are made, and the stock of faulty plans
 //! The faults in numbers are made first, then those in lines, then those in bytes; what comes out is asked, and made again until it fits.
 
-use crate::frames::{first_no, pair_lines, Form, Pair, Text, BARRIER, CR, GRAPH, GREATEST_FILE, LF, PATH, STOCK};
+use crate::frames::{first_no, pair_lines, Form, Pair, Text, BARRIER, CR, GRAPH, GREATEST_FILE, LF, PATH, PLAN, STOCK};
 use crate::generate::{all_fits, random_graph};
 use crate::graph_trial::{self, mate, mate_of, Graph, CERTIFICATE_QUESTIONS, GRAPH_QUESTIONS, SELF_ARC};
+use crate::kept_trial::{self, OF_HEADER, PLAN_QUESTIONS};
 use crate::random::Random;
-use crate::stock_trial::{self, STOCK_QUESTIONS};
+use crate::stock_trial::{self, Stock, STOCK_QUESTIONS};
 
 #[derive(Clone, Copy, Debug, PartialEq)]
 pub enum Kind {
@@ -34,27 +36,54 @@ pub fn graph_for_certificates() -> Graph {
     Graph { pairs: 4, source: 0, arcs: vec![(0, 2), (3, 1), (2, 3), (2, 3), (0, 2), (3, 1), (4, 6), (7, 5)] }
 }
 
+/// All fits among the first seven of ten cameras but 3-6 and 4-5.
+pub fn stock_for_plans() -> Stock {
+    Stock { cameras: 10, fits: fits_of_seven(), lit: vec![(0, 2), (3, 5)] }
+}
+
+fn fits_of_seven() -> Vec<Pair> {
+    all_fits(7).into_iter().filter(|fit| *fit != (3, 6) && *fit != (4, 5)).collect()
+}
+
 pub fn failing(random: &mut Random, kind: Kind, faults: &[u8]) -> Result<Vec<u8>, String> {
     let beside = graph_for_certificates();
-    for _ in 0..1_000 {
-        let file = match kind {
+    let made = made_to_fail(
+        questions(kind),
+        faults,
+        || match kind {
             Kind::Graph => graph_with(random, faults),
             Kind::Stock => stock_with(random, faults),
             Kind::Path => path_with(random, faults),
             Kind::Barrier => barrier_with(random, faults),
-        };
-        let text = Text::of(&file);
-        let ask = |question: u8| match kind {
-            Kind::Graph => graph_trial::ask(&text, question),
-            Kind::Stock => stock_trial::ask(&text, question),
-            Kind::Path | Kind::Barrier => graph_trial::ask_certificate(&beside, &text, question),
-        };
-        let fits = first_no(questions(kind), ask) == faults[0] && faults.iter().all(|fault| !ask(*fault));
-        if fits {
-            return Ok(file);
-        }
-    }
-    Err(format!("no file of kind {kind:?} was found that fails {faults:?}"))
+        },
+        |text, question| match kind {
+            Kind::Graph => graph_trial::ask(text, question),
+            Kind::Stock => stock_trial::ask(text, question),
+            Kind::Path | Kind::Barrier => graph_trial::ask_certificate(&beside, text, question),
+        },
+    );
+    made.ok_or(format!("no file of kind {kind:?} was found that fails {faults:?}"))
+}
+
+pub fn failing_plan(random: &mut Random, faults: &[u8]) -> Result<Vec<u8>, String> {
+    let beside = stock_for_plans();
+    let ask = |text: &Text, question: u8| kept_trial::ask(&beside, text, question);
+    let made = made_to_fail(&PLAN_QUESTIONS, faults, || plan_with(random, faults), ask);
+    made.ok_or(format!("no plan was found that fails {faults:?}"))
+}
+
+/// The first file made that fails as it should.
+fn made_to_fail(
+    order: &[u8],
+    faults: &[u8],
+    mut make: impl FnMut() -> Vec<u8>,
+    ask: impl Fn(&Text, u8) -> bool,
+) -> Option<Vec<u8>> {
+    let fails = |file: &Vec<u8>| {
+        let text = Text::of(file);
+        first_no(order, |question| ask(&text, question)) == faults[0] && faults.iter().all(|fault| !ask(&text, *fault))
+    };
+    (0..1_000).map(|_| make()).find(fails)
 }
 
 // ---- faults in numbers
@@ -109,8 +138,7 @@ fn graph_with(random: &mut Random, faults: &[u8]) -> Vec<u8> {
 fn stock_with(random: &mut Random, faults: &[u8]) -> Vec<u8> {
     let has = |fault: u8| faults.contains(&fault);
     let mut cameras = random.between(8, 12);
-    // all fits among the first seven cameras but 3-6 and 4-5
-    let mut fits: Vec<Pair> = all_fits(7).into_iter().filter(|fit| *fit != (3, 6) && *fit != (4, 5)).collect();
+    let mut fits = fits_of_seven();
     let mut lit: Vec<Pair> = vec![(0, 1), (2, 3)];
     if has(14) {
         let again = *random.choose(&[(2, 4), (2, 6), (3, 4)]);
@@ -158,6 +186,27 @@ fn disorder(random: &mut Random, pairs: &mut Vec<Pair>) {
             pairs.swap(place, other);
         }
     }
+}
+
+fn plan_with(random: &mut Random, faults: &[u8]) -> Vec<u8> {
+    let has = |fault: u8| faults.contains(&fault);
+    let mut pairs: Vec<Pair> = vec![(0, 1), (2, 3)];
+    if has(14) {
+        let again = *random.choose(&[(2, 4), (2, 6), (3, 4)]);
+        pairs.push(again);
+    }
+    if has(13) {
+        pairs.push(*random.choose(&[(4, 5), (7, 8), (5, 9)]));
+        pairs.sort_unstable();
+    }
+    if has(12) {
+        disorder(random, &mut pairs);
+    }
+    if has(9) {
+        let last = pairs.len() - 1;
+        pairs[last].1 = if random.chance(50) { 10 } else { random.between(10, 255) };
+    }
+    Draft::new(&PLAN, "00", pair_lines(0x52, &pairs)).with(random, faults)
 }
 
 fn path_with(random: &mut Random, faults: &[u8]) -> Vec<u8> {
@@ -228,6 +277,9 @@ impl Draft<'_> {
             (true, _) => random.below(0x10000),
         };
         self.end = Some(format!("{:02X}{told:04X}", self.form.end));
+        if self.form.header == PLAN.header {
+            self.header = Some(format!("{:02X}{:02X}", self.form.header, told_in_header(random, count, told, has(OF_HEADER))));
+        }
         if has(6) {
             self.break_lines(random);
         }
@@ -276,6 +328,19 @@ impl Draft<'_> {
             _ => None,
         };
     }
+}
+
+/// The number of pairs that a plan's header tells, by that of its lines and the one that its end frame tells; of more than two digits can
+/// tell, the largest that they can.
+fn told_in_header(random: &mut Random, count: usize, in_end: usize, wrongly: bool) -> usize {
+    let told = match (wrongly, random.below(4)) {
+        (false, _) => count,
+        (true, 0) => count + 1,
+        (true, 1) => count - 1,
+        (true, 2) => in_end,
+        (true, _) => random.below(256),
+    };
+    told.min(255)
 }
 
 /// Question 3: a byte that is no digit, a line of an odd number of digits or of none, or a last line without its end.

@@ -2,6 +2,7 @@
 //!   Group       a name, what is tried, and whether its files are drawn by the seed; of an engine, or of programs
 //!   of_trial    the trial against itself; no engine is called
 //!   of_engine   what an engine must pass; those that cost least come first
+//!   of_kept     what it must pass besides, of kept pairings; an engine that is wrong in those alone must fail one of these
 //!   of_programs what the programs must pass
 //!   run         one group, with a seed of its own; a panic is a failure, and so is a group that tries nothing
 //!   run_programs    the same for the programs
@@ -12,8 +13,9 @@ use crate::programs::Programs;
 use crate::random::Random;
 use crate::seen::Seen;
 use crate::{
-    budget_trials, caller_trials, cases, damage, exhaustive, isolated_trials, large, line_end_trials, lit_pair_trials,
-    look_up_trials, printout_trials, program_trials, self_arc_trials, self_checks, sizes, trials,
+    budget_trials, caller_trials, cases, damage, exhaustive, isolated_trials, kept_plan_trials, kept_trials, large,
+    line_end_trials, lit_pair_trials, look_up_trials, printout_trials, program_trials, self_arc_trials, self_checks, sizes,
+    trials,
 };
 use std::panic::{catch_unwind, AssertUnwindSafe};
 
@@ -64,6 +66,7 @@ pub fn of_trial() -> Vec<EngineGroup> {
         share("marks by alternating paths agree with all pairings", 100, self_checks::marks_by_paths_agree),
         share("printouts taken agree with all pairings", 40, self_checks::printouts_agree),
         share("budgets by formulas agree with searches one by one", 40, self_checks::budgets_agree),
+        share("kept pairings by going back agree with a list of names", 20, self_checks::kept_agree),
         share("marks are document 01's but for isolated cameras", 100, self_checks::marks_agree),
         share("the bound of Tutte and Berge is met", 10, self_checks::bounds_are_met),
         share("all regular paths agree with matchings of arcs", 100, self_checks::paths_agree),
@@ -184,6 +187,31 @@ pub fn of_engine() -> Vec<EngineGroup> {
         drawn("42 triangles in a row", large::triangles),
         drawn("odd rings", large::odd_rings),
         share("ears of 90 to 127 cameras", 1, large::ears),
+    ]
+}
+
+pub fn of_kept() -> Vec<EngineGroup> {
+    vec![
+        fixed("kept: known calls", kept_trials::known),
+        fixed("kept: rooms", kept_trials::rooms),
+        fixed("kept: before the first stock", kept_trials::before_the_first),
+        share("kept: random calls", 10, kept_trials::random_calls),
+        share("kept: side by side", 5, kept_trials::side_by_side),
+        share("kept: other calls between", 5, kept_trials::other_calls_between),
+        share("kept: plans of stocks", 10, kept_plan_trials::plans_of_stocks),
+        drawn("kept: cut off", kept_plan_trials::cut_off),
+        drawn("kept: other pairs", kept_plan_trials::other_pairs),
+        drawn("kept: places", kept_trials::places),
+        share("kept: answers compared", 10, kept_trials::answers_compared),
+        drawn("kept: every refusal of a stock", kept_plan_trials::bring_refusals),
+        drawn("kept: every refusal of a keep", kept_plan_trials::keep_refusals),
+        drawn("kept: damaged at every byte", kept_plan_trials::damaged),
+        fixed("kept: every name", kept_trials::every_name),
+        fixed("kept: 60,000 bytes", kept_plan_trials::lengths),
+        drawn("kept: numbers of pairs told", kept_plan_trials::told_counts),
+        drawn("kept: new stocks", kept_trials::stocks),
+        drawn("kept: every number of pairs", kept_plan_trials::every_size),
+        fixed("kept: every two names", kept_trials::every_two_names),
     ]
 }
 

@@ -25,6 +25,7 @@
 //!   look_up, look_up_in   a pair looked up among fits, or among those that two slices give, and judged
 //!   looked_up             what a look-up answers, not judged
 //!   OVER, wrong_caller    numbers of searches that are not granted; some number that is no caller's
+//!   Lent, some_lent       a buffer and a tally that are lent to a call
 //!   raised, counts_of     a tally with one count of one caller raised; its counts for messages
 //!   Trial                 done, or what went wrong and on which file
 
@@ -72,7 +73,7 @@ pub fn by_all_callers<'a>(calls: &[(Call, &'a [u8], Count)]) -> Vec<Counted<'a>>
 }
 
 pub struct Judge<'a> {
-    engine: &'a dyn Engine,
+    pub engine: &'a dyn Engine,
     pub random: Random,
     pub seen: Seen,
 }
@@ -80,10 +81,10 @@ pub struct Judge<'a> {
 pub const LEAST_ROOM: usize = 2_048;
 
 /// A buffer with bytes before and after it, and a tally.
-struct Lent {
-    bytes: Vec<u8>,
-    start: usize,
-    room: usize,
+pub struct Lent {
+    pub bytes: Vec<u8>,
+    pub start: usize,
+    pub room: usize,
     tally: Tally,
 }
 
@@ -432,7 +433,7 @@ impl<'a> Judge<'a> {
     }
 
     /// A buffer of a size at any address, any bytes in it and around it, and any tally.
-    fn some_lent(&mut self, room: usize) -> Lent {
+    pub fn some_lent(&mut self, room: usize) -> Lent {
         let start = MARGIN + self.random.below(16);
         Lent { bytes: self.random.bytes(start + room + MARGIN), start, room, tally: self.some_tally() }
     }

@@ -7,8 +7,10 @@
 //!   blossom          maximum matchings of any size
 //!   arc_matching     regular paths of any size, by matchings
 //!   truth            what the documents say of a file
-//!   engine           the calls, the look-up, and the proved engine where it is linked
+//!   kept_trial       what the documents say of pairings kept under names, by going back through the calls
+//!   engine           the calls, the look-up, states of kept pairings, and the proved engine where it is linked
 //!   reference        an engine made of the trial's parts
+//!   kept_reference   its kept pairings
 //!   wrong, slips     engines with one part wrong
 //!   wrong_line_ends  engines that take line ends wrongly
 //!   wrong_isolated   engines that mark cameras without a fit wrongly
@@ -18,8 +20,13 @@
 //!   wrong_halves     engines that give another plan or another sheet in it
 //!   wrong_self_arcs  engines that ask wrongly for arcs from a node to itself
 //!   wrong_callers    engines that take callers wrongly, or count for another
+//!   wrong_kept       engines that keep pairings wrongly: in names, places, forgetting and states
+//!   wrong_kept_plans    the same in what is kept, and in the questions put to it
+//!   wrong_kept_answers  the same in the stock, and in what comes back
 //!   judge            a call judged whole: result, buffer, tally
+//!   kept_judge       a call for kept pairings judged whole
 //!   seen             what was tried, counted
+//!   seen_kept        the same of kept pairings
 //!   generate         random graphs and stocks
 //!   fit_lists        lists of fits, and pairs to look up in them
 //!   faults           files that fail chosen questions
@@ -39,6 +46,8 @@
 //!   budget_trials    the call that stops after so many searches
 //!   self_arc_trials  graphs with an arc from a node to itself
 //!   caller_trials    callers, and the counts of each
+//!   kept_trials      pairings kept under names, and what comes back
+//!   kept_plan_trials plan files that are handed in to be kept
 //!   prints           what the programs print
 //!   programs         the programs, run and judged
 //!   stand_in         this binary in a program's place
@@ -65,6 +74,11 @@ pub mod graph_trial;
 pub mod groups;
 pub mod isolated_trials;
 pub mod judge;
+pub mod kept_judge;
+pub mod kept_plan_trials;
+pub mod kept_reference;
+pub mod kept_trial;
+pub mod kept_trials;
 pub mod known;
 pub mod large;
 pub mod line_end_trials;
@@ -79,6 +93,7 @@ pub mod programs;
 pub mod random;
 pub mod reference;
 pub mod seen;
+pub mod seen_kept;
 pub mod self_arc_trials;
 pub mod self_checks;
 pub mod shapes;
@@ -94,6 +109,9 @@ pub mod wrong_budgets;
 pub mod wrong_callers;
 pub mod wrong_halves;
 pub mod wrong_isolated;
+pub mod wrong_kept;
+pub mod wrong_kept_answers;
+pub mod wrong_kept_plans;
 pub mod wrong_line_ends;
 pub mod wrong_look_ups;
 pub mod wrong_printouts;

@@ -5,13 +5,15 @@
 //!   Parts             the engine as a record of its parts
 //!   Parts::right      each part as the documents say
 //!   Parts::past_17    a call by its parts, once question 17 is answered
+//!   Parts::kept       the calls for kept pairings (kept_reference.rs)
 //!   answer .. check   those of them that wrong ones are made from
 
 use crate::arc_matching;
 use crate::blossom;
-use crate::engine::{Call, Counts, Engine, Fit, Looked, Searched, Tally, Told, Verdict};
+use crate::engine::{Call, Counts, Engine, Fit, Kept, Looked, Searched, Tally, Told, Verdict};
 use crate::frames::{barrier_file, budget_file, path_file, printout, Pair};
 use crate::graph_trial::{self, canonical, Certificate, Graph};
+use crate::kept_reference::{Calls, Held};
 use crate::stock_trial::{self, Standing, Stock};
 use crate::truth::WRONG_CALLER;
 
@@ -78,6 +80,8 @@ pub struct Parts {
     // calls, whole: those three, and the check
     pub call: AnyCall,
     pub check: Check,
+    /// the calls for kept pairings, which share nothing with those
+    pub kept: Calls,
 }
 
 impl Parts {
@@ -106,6 +110,7 @@ impl Parts {
             budget: Box::new(budget),
             call: Box::new(call),
             check: Box::new(check),
+            kept: Calls::right(),
         }
     }
 
@@ -272,5 +277,13 @@ impl Engine for Parts {
 
     fn look_up(&self, firsts: &[u8], seconds: &[u8], sought: Fit) -> Looked {
         (self.look_up)(firsts, seconds, sought)
+    }
+
+    fn power_on(&self) -> Box<dyn Kept + '_> {
+        Box::new(Held::at_power_on(&self.kept))
+    }
+
+    fn zero_bytes(&self) -> Box<dyn Kept + '_> {
+        Box::new(Held::of_zero_bytes(&self.kept))
     }
 }

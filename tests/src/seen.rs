@@ -11,7 +11,7 @@
 //!   Seen        files, calls, and calls by what they came to, those on files with CR LF also by themselves; stocks by isolated cameras and
 //!               by lit pairs; printouts by what they tell and by their sizes; look-ups by what was sought; calls with a budget by what they
 //!               came to; calls by what refused them; graphs by self arcs, and calls on those by what refused them; counts by who raised
-//!               them and what stood beside them; wrong callers
+//!               them and what stood beside them; wrong callers; and what was tried with kept pairings (seen_kept.rs)
 //!   never_met   what of all that calls can come to was not met
 //!   too_rare    where isolated cameras stood in too few stocks
 //!   too_few_look_ups, too_few_lit_pairs, too_few_budgets    what was looked up too seldom; which lit pairs or budgets were met too seldom
@@ -21,12 +21,14 @@
 //!   never_refused_self_arcs    where 16 never refused a call, alone or with 10, or no earlier question refused a graph with self arcs
 //!   too_few_raised, too_few_beside    which counts were raised too seldom, or beside which other one at its largest
 //!   never_called     which wrong callers never made which call
+//!   refusals_in, beside, too_few, add_counts    how such things are listed, compared and added up
 
 use crate::engine::{CallKind, Fit, Tally, CALLERS, CALL_KINDS, OF_EACH};
 use crate::fit_lists::{rises, MOST_FITS};
 use crate::frames::{plan_in, Pair, Text, BUDGET, PLAN};
 use crate::graph_trial::{is_self_arc, mate, mate_of, Graph, CERTIFICATE_QUESTIONS, GRAPH_QUESTIONS, MOST_ARCS, SELF_ARC};
 use crate::line_ends::{ends_of, has_cr_lf, Ends};
+use crate::seen_kept::SeenKept;
 use crate::stock_trial::{any_twice, includes, no_camera_twice, Standing, Stock, MOST_CAMERAS, MOST_PAIRS, STOCK_QUESTIONS};
 use crate::truth::{numbers_within, questions_of, wrong_callers, Count, Numbers, MOST_SEARCHES, OVER_BUDGET, WRONG_CALLER};
 use std::collections::{BTreeMap, BTreeSet};
@@ -423,7 +425,7 @@ fn every_size() -> impl Iterator<Item = (usize, usize)> {
 }
 
 /// The first question answered no, and a later one, 0 where it is alone.
-fn refusals_in(order: &[u8]) -> Vec<(u8, u8)> {
+pub fn refusals_in(order: &[u8]) -> Vec<(u8, u8)> {
     let with_later = |place: usize| order[place + 1..].iter().copied().chain([0]).collect::<Vec<u8>>();
     (0..order.len())
         .flat_map(|place| with_later(place).into_iter().map(|later| (order[place], later)).collect::<Vec<_>>())
@@ -545,7 +547,7 @@ fn self_arc_refusals() -> Vec<SelfArcRefusal> {
 }
 
 /// Of the questions that a file fails, the others beside the one that was told, or 0 where it is alone.
-fn beside(told: u8, failing: &[u8]) -> Vec<u8> {
+pub fn beside(told: u8, failing: &[u8]) -> Vec<u8> {
     if failing == [told] {
         return vec![0];
     }
@@ -609,6 +611,7 @@ pub struct Seen {
     /// of each count that rose: how often each other one was at its largest
     beside: [[usize; CALLERS * OF_EACH]; CALLERS * OF_EACH],
     wrong_callers: BTreeMap<(CallKind, u32), usize>,
+    pub kept: SeenKept,
 }
 
 impl Seen {
@@ -769,6 +772,7 @@ impl Seen {
         let more = other.beside.as_flattened();
         self.beside.as_flattened_mut().iter_mut().zip(more).for_each(|(sum, more)| *sum += more);
         add_counts(&mut self.wrong_callers, &other.wrong_callers);
+        self.kept.add(&other.kept);
     }
 
     /// In any files, and in files with CR LF.
@@ -777,11 +781,11 @@ impl Seen {
     }
 }
 
-fn add_counts<K: Copy + Ord>(sum: &mut BTreeMap<K, usize>, more: &BTreeMap<K, usize>) {
+pub fn add_counts<K: Copy + Ord>(sum: &mut BTreeMap<K, usize>, more: &BTreeMap<K, usize>) {
     more.iter().for_each(|(counted, count)| *sum.entry(*counted).or_default() += count);
 }
 
-fn too_few<K: Copy + Ord>(all: &[K], counts: &BTreeMap<K, usize>) -> Vec<K> {
+pub fn too_few<K: Copy + Ord>(all: &[K], counts: &BTreeMap<K, usize>) -> Vec<K> {
     all.iter().copied().filter(|kind| counts.get(kind).copied().unwrap_or(0) < FEW).collect()
 }
 
@@ -811,6 +815,7 @@ impl fmt::Display for Seen {
         writeln!(out, "budgets: {}", told(&self.budgets))?;
         writeln!(out, "self arcs: {}", told(&self.self_arcs))?;
         writeln!(out, "calls of callers 0 to 3: {}; of others: {}", total(&self.raised), total(&self.wrong_callers))?;
+        writeln!(out, "{} calls for kept pairings: {}", self.kept.calls, told(self.kept.met()))?;
         write!(out, "{} look-ups: {}", self.look_ups, told(&self.sought))
     }
 }

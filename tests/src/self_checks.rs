@@ -6,6 +6,7 @@
 //!   printouts_agree          what is taken for a right printout, and every plan and the sheet by all pairings, on small stocks
 //!   budgets_agree            document 02's formulas for a budget, and searches run one by one, on small stocks and middling ones; the
 //!                            bound of pairs and missing lanes
+//!   kept_agree               what is kept by going back through the calls, and the reference engine's list of names; a plan's questions, too
 //!   marks_agree              document 01's marks, but 03 for the cameras that no largest pairing has, which are those without a fit
 //!   bounds_are_met           on larger stocks: a pairing of the greatest number, and the bound of Tutte and Berge that no pairing exceeds
 //!   paths_agree              all regular paths and matchings of arcs, on small graphs
@@ -14,8 +15,9 @@
 
 use crate::arc_matching;
 use crate::blossom;
-use crate::engine::{Fit, Looked};
+use crate::engine::{Fit, KeptCall, Looked, Told};
 use crate::exhaustive::texts;
+use crate::faults::{failing_plan, stock_for_plans};
 use crate::fit_lists::{every_place, long_list, number_of, parted, rises, short_list, sought_in};
 use crate::frames::{halves, printout, Pair, Text, CR, GRAPH, LF};
 use crate::generate::{
@@ -23,7 +25,10 @@ use crate::generate::{
     stock_with_isolated,
 };
 use crate::graph_trial::{self, canonical, is_barrier, least_of_parts, mate, regular_end, Graph};
-use crate::judge::{shown, shown_fits, Judge, Trial};
+use crate::judge::{shown, shown_fits, Judge, Trial, LEAST_ROOM};
+use crate::kept_reference::{read_plan, Calls, Held};
+use crate::kept_trial::{self, Past, PLAN_QUESTIONS};
+use crate::kept_trials::some_row;
 use crate::random::Random;
 use crate::reference::{self, Reached};
 use crate::stock_trial::{self, all_pairings, includes, is_plan, is_rising_pairing, Stock, ISOLATED};
@@ -145,6 +150,31 @@ pub fn printouts_agree(judge: &mut Judge, files: usize) -> Trial {
         let mut all = right.iter().chain(&unlit).chain(&others);
         let agree = !right.is_empty() && all.all(|answer| (owed.is_right)(answer) == right.contains(answer));
         compare(judge, agree, "a printout is taken that no pairing gives, or one is not taken", &file)
+    })
+}
+
+/// Each call of a row by both; and a plan file that fails two questions, beside its stock.
+pub fn kept_agree(judge: &mut Judge, files: usize) -> Trial {
+    let calls = Calls::right();
+    (0..files).try_for_each(|number| {
+        let random = &mut judge.random;
+        let row = some_row(random, 40);
+        let (mut past, mut held) = (Past::default(), Held::at_power_on(&calls));
+        for call in &row {
+            let due = past.due(call);
+            let mut out = [0; LEAST_ROOM];
+            let room = if let KeptCall::ComeBack(_, room) = call { *room.min(&LEAST_ROOM) } else { 0 };
+            let Told { number, size } = call.by(&mut held, call.file(), &mut out[..room]);
+            let agree = (number, &out[..size]) == (due.number, &due.answer[..]);
+            compare(judge, agree, "going back through the calls and a list of names differ", format!("{call:?}").as_bytes())?;
+            past.changes.extend(due.change);
+        }
+        let first = number % PLAN_QUESTIONS.len();
+        let later = judge.random.between(first, PLAN_QUESTIONS.len() - 1);
+        let plan = failing_plan(&mut judge.random, &[PLAN_QUESTIONS[first], PLAN_QUESTIONS[later]])?;
+        let stock = stock_for_plans();
+        let agree = kept_trial::read(&stock, &plan) == read_plan(&stock, &plan);
+        compare(judge, agree, "a plan's questions, and those of lit pairs, differ", &plan)
     })
 }
 

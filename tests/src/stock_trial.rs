@@ -2,6 +2,7 @@
 //!   Stock                 number of cameras, fits, lit pairs; which cameras are isolated
 //!   MOST_CAMERAS, MOST_PAIRS    how many cameras there may be, and how many pairs of them
 //!   ask, read             one question put to a stock file; all in order
+//!   lit_answers           a question of the lit pairs, put to a stock
 //!   any_twice             two of some things are the same
 //!   each_pairing, all_pairings    every pairing of the fits, once
 //!   Standing              greatest number of pairs and every camera's mark
@@ -13,7 +14,7 @@
 
 use crate::frames::{first_no, number, stock_file, Pair, Text, STOCK};
 
-#[derive(Clone, Debug, PartialEq)]
+#[derive(Clone, Debug, Default, PartialEq)]
 pub struct Stock {
     pub cameras: usize,
     pub fits: Vec<Pair>,
@@ -64,17 +65,29 @@ pub fn includes(pairs: &[Pair], camera: usize) -> bool {
 
 pub fn ask(text: &Text, question: u8) -> bool {
     let stock = stock_in(text);
-    let named = |(first, second): &Pair| *first < stock.cameras && *second < stock.cameras;
-    let is_fit = |(first, second): &Pair| stock.fits.contains(&(*first, *second)) || stock.fits.contains(&(*second, *first));
     match question {
         5 => stock.cameras <= MOST_CAMERAS,
         8 => stock.fits.len() <= 3_900,
-        9 => stock.fits.iter().all(named) && stock.lit.iter().all(named),
+        9 => stock.fits.iter().all(|fit| is_named(&stock, fit)) && lit_answers(&stock, 9),
         11 => rises(&stock.fits),
+        12..=14 => lit_answers(&stock, question),
+        _ => text.answers(&STOCK, question),
+    }
+}
+
+fn is_named(stock: &Stock, (first, second): &Pair) -> bool {
+    *first < stock.cameras && *second < stock.cameras
+}
+
+/// Questions 9, of the lit pairs alone, and 12 to 14.
+pub fn lit_answers(stock: &Stock, question: u8) -> bool {
+    let is_fit = |(first, second): &Pair| stock.fits.contains(&(*first, *second)) || stock.fits.contains(&(*second, *first));
+    match question {
+        9 => stock.lit.iter().all(|pair| is_named(stock, pair)),
         12 => rises(&stock.lit),
         13 => stock.lit.iter().all(is_fit),
         14 => no_camera_twice(&stock.lit),
-        _ => text.answers(&STOCK, question),
+        _ => panic!("question {question} is not asked of lit pairs"),
     }
 }
 

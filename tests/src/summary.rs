@@ -4,13 +4,14 @@
 //!   try_all     everything: the trial against itself, the engine, the programs, and what is wrong, which must fail
 
 use crate::engine::{Engine, CALL_KINDS};
-use crate::groups::{of_engine, of_programs, of_trial, run, run_programs, EngineGroup, PANIC};
+use crate::groups::{of_engine, of_kept, of_programs, of_trial, run, run_programs, EngineGroup, PANIC};
 use crate::judge::Trial;
 use crate::options::Options;
 use crate::programs::{Place, Programs, NOT_RUN};
 use crate::reference::Parts;
 use crate::seen::Seen;
-use crate::wrong;
+use crate::wrong::{self, Named};
+use crate::wrong_kept;
 use crate::wrong_programs::{self, WrongProgram};
 use std::process::ExitCode;
 
@@ -60,7 +61,7 @@ impl Summary<'_> {
 
     /// Every kind of answer and every refusal was met, in files with CR LF too; isolated cameras, lit pairs, self arcs and look-ups in every
     /// place; every kind and size of a printout; every outcome of a budget; every refusal of a graph, a stock and a budget; every count of
-    /// every caller; wrong callers; question 16 by both calls with all line ends.
+    /// every caller; wrong callers; question 16 by both calls with all line ends; and what can be met with kept pairings.
     fn try_coverage(&mut self) {
         let kinds = ["every kind of answer and every refusal was met", "the same on files with CR LF"];
         for (name, missing) in kinds.into_iter().zip(self.seen.never_met()) {
@@ -104,14 +105,28 @@ impl Summary<'_> {
             "question 16 refused both calls, alone, with 10 and after each earlier one, with all line ends",
             none_missing(&self.seen.never_refused_self_arcs(), "never met (call, ends, first, later)"),
         );
+        self.try_kept_coverage();
     }
 
-    fn try_wrong_engines(&mut self) {
-        let groups = of_engine();
+    fn try_kept_coverage(&mut self) {
+        self.tell("kept: every kind of calls in a row was met", none_missing(&self.seen.kept.too_few_met(), "too few"));
+        self.tell(
+            "kept: every call was refused by every question, alone and with each later one",
+            none_missing(&self.seen.kept.never_refused(), "never met (call, first, later)"),
+        );
+        self.tell(
+            "kept: every name was used by every call",
+            none_missing(&self.seen.kept.never_named(), "never met (call, name)"),
+        );
+        self.tell("kept: every number of pairs came back", none_missing(&self.seen.kept.never_sized(), "never met"));
+        self.tell("kept: each of eight places was used in every way", none_missing(&self.seen.kept.never_placed(), "never met"));
+    }
+
+    fn try_wrong_engines(&mut self, groups: &[EngineGroup], engines: Vec<Named>) {
         let seed = self.options.seeds[0];
         let right = Parts::right();
         let mut right_one = Right::new(groups.len(), |place: usize| run(&groups[place], &right, seed, WRONG_FILES).1);
-        for (what, engine) in wrong::engines() {
+        for (what, engine) in engines {
             let name = format!("wrong engine: {what}");
             if self.is_wanted(&name) {
                 let outcome = right_one.caught(|place| run(&groups[place], &engine, seed, WRONG_FILES).1);
@@ -210,11 +225,13 @@ pub fn try_all(options: &Options, engine: &dyn Engine) -> ExitCode {
     let mut summary = Summary { options, passed: 0, failed: 0, seen: Seen::default() };
     summary.try_groups(&of_trial(), engine);
     summary.try_groups(&of_engine(), engine);
+    summary.try_groups(&of_kept(), engine);
     if options.only.is_empty() {
         summary.try_coverage();
     }
     let tried = summary.try_programs().and_then(|_| {
-        summary.try_wrong_engines();
+        summary.try_wrong_engines(&of_engine(), wrong::engines());
+        summary.try_wrong_engines(&of_kept(), wrong_kept::engines());
         summary.try_wrong_programs()
     });
     if let Err(fault) = tried {
