@@ -26,6 +26,8 @@ known-kept = (
   refl,
   refl,
   refl,
+  refl,
+  refl,
   record { before = untilKept; later = sinceThen; calls = refl; accepted = refl; quiet = refl },
   refl,
   refl,

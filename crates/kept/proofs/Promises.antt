@@ -5,16 +5,16 @@
 --   keep-asks, kept-again, plans-kept             what can be kept
 --   returns-kept                                  line ends
 --   apart                                         these calls among those that count for a caller
---   blocks-follow                                 the state as a block of bytes
-use mathlib.Core.Path.{_≡_, refl, sym, ap, _∙_}
+--   blocks-follow, blocks-tell, blocks-return     the state as a block of bytes
+use mathlib.Core.Path.{_≡_, refl, sym, ap, subst, _∙_}
 use mathlib.Core.Logic.{⊎-elim}
 use mathlib.Core.Bool.{true, false, _||_, not}
 use mathlib.Core.List.{List, [], _∷_, _++_}
-use Prim.Native.Nat.{ℕ}
+use Prim.Native.Nat.{ℕ, _<_}
 use native.Mathlib.Omega.{arith}
 use lib.Dec.{eqb, ltb}
-use lib.ListN.{length, replicate}
-use borrow.Author.Tests.{eqb-true, eqb-false, eq-eqb, ne-eqb, lt-ltb, le-ltb, ltb-false, le-leb, not-true}
+use lib.ListN.{length, drop, replicate}
+use borrow.Author.Tests.{eqb-true, eqb-false, eq-eqb, ne-eqb, lt-ltb, le-ltb, ltb-false, le-leb, lt-leb, not-true}
 use Rattle.formats.specs.Limits.{room, namesMost}
 use Rattle.counting.specs.Tests.{all, any}
 use Rattle.counting.specs.Pairs.{Pair, zipPairs, pairNamed}
@@ -36,11 +36,13 @@ use Rattle.files.proofs.SameLines.{returns-same, too-long}
 use Rattle.files.proofs.AcceptedFiles.{accepted-stock, stock-few}
 use Rattle.files.proofs.AnswerLines.{plan-size}
 use Rattle.files.proofs.PlanFiles.{plan-few, plan-accepted}
-use Rattle.lanes.specs.Entry.{roomFault}
+use Rattle.files.specs.Answers.{over}
+use Rattle.lanes.specs.Entry.{roomFault, told}
+use Rattle.lanes.specs.declared.Told.{Told}
 use Rattle.lanes.specs.Tallies as tallies
-use Rattle.kept.specs.State.{State, powerOn, isNamed, isKept, without, pairsUnder, KeptCall, bring, keepAs, comeBack, nameFault, placeFault, faultOf, answerOf, after, afterCalls}
-use Rattle.kept.specs.Block.{blockSize, entriesIn, stateOf, Led}
-use Rattle.kept.specs.Promise.{reached, LastKept, ComesBack, Places, NineteenIs, MakesRoom, KeptPairings, StockAnew, RefusalsLeave, KeepAsks, KeptAgain, PlansKept, ReturnsKept, counted, kept, memoryAfter, afterAny, countedOnes, keptOnes, Apart, BlocksFollow}
+use Rattle.kept.specs.State.{State, powerOn, isNamed, isKept, without, pairsUnder, KeptCall, bring, keepAs, comeBack, nameFault, placeFault, faultOf, KeptAnswer, answerOf, after, afterCalls}
+use Rattle.kept.specs.Block.{blockSize, entriesIn, stateOf, Owes, Returns, Led}
+use Rattle.kept.specs.Promise.{reached, LastKept, ComesBack, Places, NineteenIs, MakesRoom, KeptPairings, StockAnew, RefusalsLeave, KeepAsks, KeptAgain, PlansKept, ReturnsKept, counted, kept, memoryAfter, afterAny, countedOnes, keptOnes, Apart, BlocksFollow, BlocksTell, BlocksReturn}
 use Rattle.kept.proofs.ByName.{kept-entry, without-gone, without-fewer}
 use Rattle.kept.proofs.Reached.{reached-sound}
 use Rattle.kept.proofs.Standing.{calls-joined, quiet-same, keeping-stands, kept-since}
@@ -196,3 +198,44 @@ unfolding entriesIn zipPairs
 blocks-follow =
     let none : stateOf (replicate blockSize 0) ≡ powerOn = refl in
     (none, led-follows, λ c ks l. led-follows (replicate blockSize 0) c ks l ∙ ap (λ (s : State). afterCalls s ks) none)
+
+led-more : (b c d : List ℕ) (ks : List KeptCall) (k : KeptCall) (n : ℕ) → Led b ks c → Owes c k n d → Led b (ks ++ k ∷ []) d
+unfolding Led
+led-more b c d [] k n l w = (n, (d, (subst (λ (x : List ℕ). Owes x k n d) l w, refl)))
+led-more b c d (j ∷ ks) k n l w = (l .0, (l .1 .0, (l .1 .1 .0, led-more (l .1 .0) c d ks k n (l .1 .1 .1) w)))
+
+pub blocks-tell : BlocksTell
+blocks-tell b c ks k n l w = (
+  w .says ∙ ap (λ (s : State). faultOf s k) (blocks-follow .2 b ks l),
+  w .untouched,
+  led-more (replicate blockSize 0) b c ks k n l w,
+)
+
+back-same : (s : State) (n size : ℕ) → s ≡ after s (comeBack n size)
+back-same s n size = by-test (eqb (faultOf s (comeBack n size)) 0) (λ t. rw t) (λ t. rw t)
+
+-- what coming back tells and leaves, by what it answers
+returned : (b o v : List ℕ) (k : KeptCall) (r : Told) {s : State} {a : KeptAnswer} → Returns b k o r v → stateOf b ≡ s → answerOf s k ≡ a →
+    (r ≡ told (a .number) (length (a .text))) × (v ≡ over (a .text) o)
+returned b o v k r w e q =
+    let same : answerOf (stateOf b) k ≡ _ = ap (λ (s : State). answerOf s k) e ∙ q in (
+      w .tells ∙ ap (λ (x : KeptAnswer). told (x .number) (length (x .text))) same,
+      w .bytes ∙ ap (λ (x : KeptAnswer). over (x .text) o) same,
+    )
+
+pub blocks-return : BlocksReturn
+blocks-return b o v ks n r l w =
+    let k = comeBack n (length o) in
+    let e = blocks-follow .2 b ks l in
+    let short : length o < room → answerOf (reached ks) k ≡ record { number = 1; text = [] } = λ h. rw (lt-leb room (length o) h) in (
+      record { says = ap (λ (t : Told). t .number) (w .tells); leaves = back-same (stateOf b) n (length o); untouched = λ _. refl },
+      λ h. let x = returned b o v k r w e (short h) in (ap (λ (t : Told). t .number) (x .0), ap (λ (t : Told). t .size) (x .0), x .1),
+      λ h.
+          let back = comes-back ks n (length o) h in (
+            λ f L.
+                let x = returned b o v k r w e (back .0 f L) in
+                let size = plan-size (planPairs f) in
+                (ap (λ (t : Told). t .number) (x .0), ap (λ (t : Told). t .size) (x .0) ∙ size, x .1 ∙ ap (λ (i : ℕ). planText (planPairs f) ++ drop i o) size),
+            λ never. let x = returned b o v k r w e (back .1 never) in (ap (λ (t : Told). t .number) (x .0), ap (λ (t : Told). t .size) (x .0), x .1),
+          ),
+    )

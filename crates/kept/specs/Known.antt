@@ -44,14 +44,15 @@ abbrev pub eightKept : List KeptCall
 eightKept =
     keeping 0 [] ∷ keeping 1 [] ∷ keeping 2 [] ∷ keeping 3 [] ∷ keeping 4 [] ∷ keeping 5 [] ∷ keeping 6 [] ∷ keeping 7 [] ∷ []
 
--- before the first stock the empty pairing is kept, and no pair; a wrong number in header or end frame; a stock file. Of S5, whose fits are 0-1, 1-2 and
--- 2-3: carriage returns; the larger camera first; 0-2; 1 in two pairs. A short buffer, before the name; the name. Then 65 as it was last kept: 5101, 520001
--- and 5F0001, ended by line feeds; 66; the same stock again. Last, with eight kept, a ninth name, one of the eight, a faulty plan under the ninth, and the
--- ninth after another is forgotten
+-- before the first stock the empty pairing is kept, and no pair; a wrong number in header or end frame; a stock file; a line that is not ended; a header
+-- alone. Of S5, whose fits are 0-1, 1-2 and 2-3: carriage returns; the larger camera first; 0-2; 1 in two pairs. A short buffer, before the name; the name.
+-- Then 65 as it was last kept: 5101, 520001 and 5F0001, ended by line feeds; 66; the same stock again. Last, with eight kept, a ninth name, one of the eight,
+-- a faulty plan under the ninth, and the ninth after another is forgotten
 abbrev pub KnownKept : Type 0
 KnownKept =
     (faultOf powerOn (keeping 65 []) ≡ 0) × (faultOf powerOn (keeping 65 onePair) ≡ 9) × (faultOf powerOn (keepAs 65 (planOf 0 onePair 1)) ≡ 7) ×
     (faultOf powerOn (keepAs 65 (planOf 1 onePair 0)) ≡ 7) × (faultOf powerOn (keepAs 65 s5File) ≡ 4) ×
+    (faultOf powerOn (keepAs 65 (53 ∷ [])) ≡ 3) × (faultOf powerOn (keepAs 65 (frame4 planKind 0)) ≡ 6) ×
     (faultOf (reached (bring s5File ∷ [])) (keepAs 65 (throughout (planText onePair))) ≡ 0) ×
     (faultOf (reached (bring s5File ∷ [])) (keeping 65 (pair 1 0 ∷ [])) ≡ 12) × (faultOf (reached (bring s5File ∷ [])) (keeping 65 (pair 0 2 ∷ [])) ≡ 13) ×
     (faultOf (reached (bring s5File ∷ [])) (keeping 65 (pair 0 1 ∷ pair 1 2 ∷ [])) ≡ 14) × (faultOf powerOn (comeBack 65 2047) ≡ 1) ×

@@ -18,13 +18,17 @@
 --   AnyCall, Memory, afterAny, countedOnes, keptOnes     these calls among those that count for a caller, over the memory of both
 --   Apart                these calls leave the tally, and those the state, whichever come between
 --   BlocksFollow         the block that calls in a row leave stands for the state that they lead to; a block of zeros for the one at power-on
+--   BlocksTell           what a call on such a block returns is the first question answered no; where there is one, no byte of the block changes; and the
+--                        block that it leaves is such a one again
+--   BlocksReturn         ComesBack in numbers and bytes: what coming back on such a block tells, and leaves in the buffer; so it is a call that leaves the
+--                        block
 use mathlib.Core.Path.{_≡_}
 use mathlib.Core.Logic.{_↔_, _≢_}
 use mathlib.Core.Bool.{Bool, true, false, _&&_, not}
 use mathlib.Core.List.{List, [], _∷_, _++_, map}
-use Prim.Native.Nat.{ℕ, _≤_, _<_}
+use Prim.Native.Nat.{ℕ, _+_, _*_, _≤_, _<_}
 use lib.Dec.{eqb}
-use lib.ListN.{length, replicate}
+use lib.ListN.{length, drop, replicate}
 use Rattle.formats.specs.Limits.{fileMost, room}
 use Rattle.counting.specs.Tests.{all, noneTwice}
 use Rattle.counting.specs.Lists.{In}
@@ -38,8 +42,9 @@ use Rattle.files.specs.PlanFile.{planPairs, planShape, planFault}
 use Rattle.lanes.specs.Tallies.{Call, outcomeOf, tallyAfter}
 use Rattle.lanes.specs.Tallies as tallies
 use Rattle.lanes.specs.declared.Tally.{Tally}
+use Rattle.lanes.specs.declared.Told.{Told}
 use Rattle.kept.specs.State.{Named, State, powerOn, isKept, KeptCall, bring, keepAs, comeBack, forget, placeFault, faultOf, answerOf, after, afterCalls}
-use Rattle.kept.specs.Block.{blockSize, stateOf, Led}
+use Rattle.kept.specs.Block.{blockSize, stateOf, Owes, Returns, Led}
 
 abbrev pub reached : List KeptCall → State
 reached ks = afterCalls powerOn ks
@@ -167,3 +172,17 @@ BlocksFollow =
     (stateOf (replicate blockSize 0) ≡ powerOn) ×
     ((b c : List ℕ) (ks : List KeptCall) → Led b ks c → stateOf c ≡ afterCalls (stateOf b) ks) ×
     ((c : List ℕ) (ks : List KeptCall) → Led (replicate blockSize 0) ks c → stateOf c ≡ reached ks)
+
+abbrev pub BlocksTell : Type 0
+BlocksTell =
+    (b c : List ℕ) (ks : List KeptCall) (k : KeptCall) (n : ℕ) → Led (replicate blockSize 0) ks b → Owes b k n c →
+    (n ≡ faultOf (reached ks) k) × (n ≢ 0 → c ≡ b) × Led (replicate blockSize 0) (ks ++ k ∷ []) c
+
+abbrev pub BlocksReturn : Type 0
+BlocksReturn =
+    (b o v : List ℕ) (ks : List KeptCall) (n : ℕ) (r : Told) → Led (replicate blockSize 0) ks b → Returns b (comeBack n (length o)) o r v →
+    Owes b (comeBack n (length o)) (r .number) b × (length o < room → (r .number ≡ 1) × (r .size ≡ 0) × (v ≡ o)) ×
+    (room ≤ length o →
+    ((f : List ℕ) → LastKept n ks f →
+    (r .number ≡ 0) × (r .size ≡ 12 + 7 * length (planPairs f)) × (v ≡ planText (planPairs f) ++ drop (12 + 7 * length (planPairs f)) o)) ×
+    (((f : List ℕ) → LastKept n ks f → ⊥) → (r .number ≡ 18) × (r .size ≡ 0) × (v ≡ o)))
