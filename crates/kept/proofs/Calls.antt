@@ -27,7 +27,6 @@ use Rattle.files.specs.Readers.{StockHeld, PlanHeld, PlanRead}
 use Rattle.files.proofs.Tables.{pairs-length}
 use Rattle.files.proofs.AcceptedFiles.{stock-few, fits-few}
 use Rattle.files.proofs.PlanFiles.{plan-held, plan-few}
-use Rattle.lanes.specs.declared.Told.{Told}
 use Rattle.kept.specs.State.{isKept, pairsUnder, KeptCall, bring, keepAs, comeBack, forget, nameFault, placeFault, faultOf, changed}
 use Rattle.kept.specs.Block.{firstsAt, secondsAt, camerasIn, fitsIn, keptIn, namedIn, stateOf, Owes, Returns}
 use Rattle.kept.specs.Slots.{StockPut, KeptPut, ClosedUp, Found, Stored}

@@ -15,7 +15,7 @@
 --   PlansKept            every plan of a stock that was brought can be kept
 --   ReturnsKept          carriage returns put before line feeds change nothing that a plan file or a stock file comes to, but that a file they make too long
 --                        gets 2
---   AnyCall, Memory, afterAny, countedOnes, keptOnes     these calls among those that count for a caller, over the memory of both
+--   AnyCall, Memory, memoryAfter, afterAny, countedOnes, keptOnes     these calls among those that count for a caller, over the memory of both
 --   Apart                these calls leave the tally, and those the state, whichever come between
 --   BlocksFollow         the block that calls in a row leave stands for the state that they lead to; a block of zeros for the one at power-on
 --   BlocksTell           what a call on such a block returns is the first question answered no; where there is one, no byte of the block changes; and the

@@ -22,9 +22,9 @@ const KEPT: usize = 3;
 
 pub const FIRSTS: usize = 4;
 
-pub const SECONDS: usize = 3904;
+pub const SECONDS: usize = FIRSTS + FITS_MOST;
 
-pub const SLOTS: usize = 7804;
+pub const SLOTS: usize = SECONDS + FITS_MOST;
 
 pub fn at_most(x: usize, most: usize) -> usize
     ensures { λ r. ⌜ r ≡ min x most ⌝ }

@@ -1,6 +1,5 @@
 -- `kept::come_back` meets its contract: refused by 1 or by 18, or what was written is what is owed.
 use mathlib.Core.Path.{ap}
-use native.Mathlib.Omega.{arith}
 use Rattle.files.specs.StockFile.{planText}
 use Rattle.kept.proofs.Calls.{name-unknown, name-known, back-short, back-unknown, back-written}
 use borrow.Author.Needs.{needs}
