@@ -2,7 +2,7 @@
 --   call-refused, call-accepted           any call that may change the state
 --   stock-small, brought                  an accepted stock has room in the block; put there, it is what bringing it owes
 --   plan-faulty, plan-stored              a plan file refused; its pairs kept, or 19
---   plan-holds, plan-small                the slices that hold its pairs; they have room in a slot
+--   plan-small                            its pairs have room in a slot
 --   name-unknown, name-known              question 18, by the slot that is found
 --   forgot                                a name forgotten
 --   back-refused, back-short, back-unknown, back-written     coming back: refused, by 1, by 18, and answered
@@ -23,7 +23,7 @@ use Rattle.frames.proofs.Questions.{or-stop, or-go}
 use Rattle.files.specs.StockFile.{stockFault, planText}
 use Rattle.files.specs.PlanFile.{planFault}
 use Rattle.files.specs.Answers.{WrittenFirst}
-use Rattle.files.specs.Readers.{StockHeld, PlanHeld, PlanRead}
+use Rattle.files.specs.Readers.{StockHeld, PlanRead}
 use Rattle.files.proofs.Tables.{pairs-length}
 use Rattle.files.proofs.AcceptedFiles.{stock-few, fits-few}
 use Rattle.files.proofs.PlanFiles.{plan-held, plan-few}
@@ -69,12 +69,9 @@ module _ (b : List ℕ) (n : ℕ) {cameras fits number count : ℕ} {f us vs us'
     none : planFault (stateOf b .cameras) (stateOf b .fits) f ≡ 0
     none = sym fault-is ∙ e
 
-    pub plan-holds : PlanHeld f us' vs' count
-    plan-holds = plan-held r e
-
     pub plan-small : (length (take count us') ≤ pairsMost) × (length (take count vs') ≡ length (take count us'))
     plan-small =
-        let h = plan-holds in
+        let h = plan-held r e in
         let l = length-take-le count us' (h .room .first) in
         let few = plan-few (stateOf b .cameras) (stateOf b .fits) f (omega arith) none in (
           omega (arith, l, pairs-length (h .room), ap (λ (zs : List Pair). length zs) (h .pairsAre), few),
@@ -84,7 +81,7 @@ module _ (b : List ℕ) (n : ℕ) {cameras fits number count : ℕ} {f us vs us'
     pub plan-stored : {d : List ℕ} {m : ℕ} → Stored b n (pairsOf count us' vs') m d → Owes b (keepAs n f) m d
     plan-stored {d} {m} s =
         let is : m ≡ faultOf (stateOf b) (keepAs n f) = s .says ∙ sym (or-go _ (placeFault (stateOf b) n) none) in
-        by-test (eqb m 0) (λ t. let y = eqb-true m 0 t in call-accepted (keepAs n f) is y (s .leaves y ∙ rw (plan-holds .pairsAre)))
+        by-test (eqb m 0) (λ t. let y = eqb-true m 0 t in call-accepted (keepAs n f) is y (s .leaves y ∙ rw (plan-held r e .pairsAre)))
         (λ t.
         let h = eqb-false m 0 t in
         subst (λ (x : List ℕ). Owes b (keepAs n f) m x) (sym (s .untouched h)) (call-refused (keepAs n f) is h))

@@ -6,7 +6,8 @@
 --   firstsAt, secondsAt, slotsAt       where the fits' cameras and the slots begin
 --   slotSize, pairsAt, othersAt        a slot's bytes, and where the cameras of its pairs begin in it
 --   camerasIn, fitsIn, keptIn          the numbers
---   slotOf i b, namedIn i b            the bytes of slot i; the name and the pairs that they say
+--   slotOf i b, slotPairs s            the bytes of slot i; the pairs that a slot's bytes say
+--   namedIn i b                        the name and the pairs of slot i
 --   entriesIn k b                      those of slots 0 to k - 1, the last kept first
 --   stateOf b                          the state that a block stands for
 --   Owes before k number after         what a call that may change the state owes: the number that is the definition's, the block of the state after the
@@ -65,11 +66,11 @@ keptIn b = min (getD b keptAt 0) namesMost
 abbrev pub slotOf : (slot : ℕ) → (block : List ℕ) → List ℕ
 slotOf i b = take slotSize (drop (slotsAt + slotSize * i) b)
 
-abbrev pub pairsIn : (slot : List ℕ) → List Pair
-pairsIn s = pairsOf (getD s 1 0) (take pairsMost (drop pairsAt s)) (take pairsMost (drop othersAt s))
+abbrev slotPairs : (slot : List ℕ) → List Pair
+slotPairs s = pairsOf (getD s 1 0) (take pairsMost (drop pairsAt s)) (take pairsMost (drop othersAt s))
 
 abbrev pub namedIn : (slot : ℕ) → (block : List ℕ) → Named
-namedIn i b = record { name = getD (slotOf i b) 0 0; pairs = pairsIn (slotOf i b) }
+namedIn i b = record { name = getD (slotOf i b) 0 0; pairs = slotPairs (slotOf i b) }
 
 unfoldable pub entriesIn : (slots : ℕ) → (block : List ℕ) → List Named
 entriesIn zero b = []

@@ -7,7 +7,7 @@
  *
  * The lines of a file end with a line feed or with a carriage return and a line feed, also mixed in one file; those of an answer with a line feed alone.
  *
- * Each call but the check names its caller, whose counts in the tally are
+ * lanes_graph, lanes_stock and lanes_budget name their caller, whose counts in the tally are
  *
  *   caller            paths       barriers    stock answers   refusals
  *   LANES_FOREMAN 0   tally[0]    tally[1]    tally[2]        tally[3]

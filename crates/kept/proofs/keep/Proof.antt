@@ -2,7 +2,8 @@
 use mathlib.Core.Path.{sym}
 use lib.Seq.{length-take-le}
 use Rattle.files.specs.Readers.{PlanHeld}
-use Rattle.kept.proofs.Calls.{plan-faulty, plan-holds, plan-small, plan-stored}
+use Rattle.files.proofs.PlanFiles.{plan-held}
+use Rattle.kept.proofs.Calls.{plan-faulty, plan-small, plan-stored}
 use borrow.Author.Needs.{needs}
 use Rattle.kept.proofs.keep.Statement.{statement}
 use Rattle.kept.proofs.keep.Tie as tie
@@ -17,9 +18,7 @@ start c = c .before .before .before .before .before .before .before .before .bef
 held : (c : tie.Else1) →
     let p = read c .read-plan in
     PlanHeld (start (read c) .args .file .now) (p .last .1 .1 .1 .1 .1 .0) (p .last .1 .1 .1 .1 .1 .1 .0) (p .result .count)
-held c =
-    let r = read c in
-    plan-holds (start r .args .state .now) (start r .args .name) (r .before .before .before .before .before .before .before .before .before .cameras-in .ensures) (r .before .before .before .before .before .before .before .fits-in .ensures) (r .read-plan .ensures) (c .if1 .left)
+held c = plan-held (read c .read-plan .ensures) (c .if1 .left)
 
 returns : tie.Need-returns
 returns c =
