@@ -1,4 +1,5 @@
 -- The arc table as a list of arcs.
+--   arcs-long                     there are as many arcs as tails
 --   in-arcs, arc-in               arc numbers, by the table's length
 --   tail-is, head-is              an arc's ends
 --   tail-node, head-node          they are nodes
@@ -8,35 +9,36 @@ use mathlib.Core.List.{List}
 use Prim.Native.Nat.{ℕ, _*_, _<_}
 use native.Mathlib.Omega.{arith}
 use lib.ListN.{length, getD}
-use Rattle.counting.specs.Pairs.{Pair}
-use Rattle.counting.proofs.Zips.{zip-length, zip-low, zip-within}
-use Rattle.skew.specs.Graph.{Graph}
+use Rattle.skew.specs.Graph.{Arc, Graph}
 use Rattle.skew.specs.Paths.{tail, head}
+use Rattle.skew.proofs.Arcs.{zipped-length, zipped-at}
 use Rattle.skew.proofs.Paths.{tail-node as tail-is-node}
-use Rattle.arcs.specs.Table.{graphOf, Covers, ArcTable}
+use Rattle.arcs.specs.Table.{tableGraph, Covers, ArcTable}
 
-module _ (n s : ℕ) (ts hs : List ℕ) where
+module _ {n s : ℕ} {ts hs : List ℕ} (T : ArcTable n s ts hs) where
   abbrev g : Graph
-  g = graphOf n s ts hs
+  g = tableGraph n s ts hs
+
+  pub arcs-long : length (g .arcs) ≡ length ts
+  arcs-long = zipped-length ts hs (T .as-long)
 
   pub in-arcs : (i : ℕ) → i < length (g .arcs) → i < length ts
-  in-arcs i h = omega (arith, zip-low ts hs .0)
+  in-arcs i h = omega (arith, arcs-long)
+
+  pub arc-in : (i : ℕ) → i < length ts → i < length (g .arcs)
+  arc-in i h = omega (arith, arcs-long)
 
   pub tail-is : (i : ℕ) → i < length (g .arcs) → tail g i ≡ getD ts i 0
-  tail-is i h = ap (λ (x : Pair). x .first) (zip-within ts hs i h)
+  tail-is i h = ap (λ (x : Arc). x .tail) (zipped-at ts hs i h)
 
   pub head-is : (i : ℕ) → i < length (g .arcs) → head g i ≡ getD hs i 0
-  head-is i h = ap (λ (x : Pair). x .second) (zip-within ts hs i h)
+  head-is i h = ap (λ (x : Arc). x .head) (zipped-at ts hs i h)
 
-  module _ (T : ArcTable n s ts hs) where
-    pub arc-in : (i : ℕ) → i < length ts → i < length (g .arcs)
-    arc-in i h = omega (arith, zip-length ts hs (T .as-long))
+  pub tail-node : (i : ℕ) → i < length ts → getD ts i 0 < 2 * n
+  tail-node i h = let l = arc-in i h in rw (tail-is i l) at (tail-is-node g (T .well-formed) i l)
 
-    pub head-node : (i : ℕ) → i < length ts → getD hs i 0 < 2 * n
-    head-node i h = let l = arc-in i h in rw (head-is i l) at (T .well-formed .head-node i l)
+  pub head-node : (i : ℕ) → i < length ts → getD hs i 0 < 2 * n
+  head-node i h = let l = arc-in i h in rw (head-is i l) at (T .well-formed .head-node i l)
 
-    pub tail-node : (i : ℕ) → i < length ts → getD ts i 0 < 2 * n
-    tail-node i h = let l = arc-in i h in rw (tail-is i l) at (tail-is-node g (T .well-formed) i l)
-
-    pub table-covers : Covers ts hs (2 * n)
-    table-covers = record { same = T .as-long; tails = tail-node; heads = head-node }
+  pub table-covers : Covers ts hs (2 * n)
+  table-covers = record { same = T .as-long; tails = tail-node; heads = head-node }

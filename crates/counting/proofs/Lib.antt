@@ -12,6 +12,7 @@
 --   Stores         runs of stores into a list
 --   Parts          parts of a list, also after stores into it
 --   Zips           two lists, pair by pair
+--   Loops          a list gone through in a loop: judged, mapped in place, stored part by part
 pub mod Booleans
 pub mod Membership
 pub mod NoRepeats
@@ -25,3 +26,4 @@ pub mod Summation
 pub mod Stores
 pub mod Parts
 pub mod Zips
+pub mod Loops

@@ -5,6 +5,7 @@
 --   getD-default                     within the list the default is not read
 --   any-some, some-any                any f xs: some element has f
 --   all-each, each-all                all f xs: each element has f
+--   all-same                          two tests that agree on the elements
 --   all-getD, getD-all, getD-fails    the same by index, and where some element has it not
 --   any-getD, getD-any                and any f xs by index
 --   all-take, all-drop, all-append    all f of a part of a list, and of lists joined
@@ -87,6 +88,11 @@ pub each-all : {A : Type 0} (f : A → Bool) (xs : List A) → ((x : A) → In x
 unfolding all
 each-all f [] h = refl
 each-all f (x ∷ xs) h = and-both (f x) (all f xs) (h x (inl refl)) (each-all f xs (λ y m. h y (inr m)))
+
+pub all-same : {A : Type 0} (f h : A → Bool) (xs : List A) → ((x : A) → In x xs → f x ≡ h x) → all f xs ≡ all h xs
+unfolding all
+all-same f h [] e = refl
+all-same f h (x ∷ xs) e = rw (e x (inl refl), all-same f h xs (λ y m. e y (inr m)))
 
 pub all-getD : {A : Type 0} (f : A → Bool) (xs : List A) (d : A) (i : ℕ) → all f xs ≡ true → i < length xs → f (getD xs i d) ≡ true
 unfolding all

@@ -1,13 +1,11 @@
 -- The numbers below a bound.
 --   up-in, in-up, length-up, distinct-up      upFrom a n: from a on, below a + n, n of them, no repeats
---   up-cons, up-none                          what is left below a bound: the first and the rest, or nothing
 --   pigeonhole                                numbers below n without repeats: at most n of them
 --   some-or-each                              bounded search: some number below n has the one thing, or all have the other
-use mathlib.Core.Path.{_≡_, refl, sym, ap, subst, _∙_}
+use mathlib.Core.Path.{_≡_, refl, sym, ap, subst}
 use mathlib.Core.Logic.{_⊎_, inl, inr, ⊎-elim}
-use mathlib.Core.List.{List, [], _∷_}
-use Prim.Native.Nat.{ℕ, zero, suc, _+_, _-_, _≤_, _<_}
-use native.Mathlib.Numerals.{add-one}
+use mathlib.Core.List.{List}
+use Prim.Native.Nat.{ℕ, zero, suc, _+_, _≤_, _<_}
 use native.Mathlib.Omega.{arith}
 use lib.ListN.{length}
 use Rattle.counting.specs.Tests.{upFrom, below}
@@ -35,16 +33,6 @@ pub distinct-up : (a n : ℕ) → Distinct (upFrom a n)
 unfolding upFrom
 distinct-up a zero = tt
 distinct-up a (suc n) = (λ m. omega (arith, in-up (suc a) n a m), distinct-up (suc a) n)
-
-pub up-cons : (a n : ℕ) → a < n → upFrom a (n - a) ≡ a ∷ upFrom (a + 1) (n - (a + 1))
-unfolding upFrom
-up-cons a n h =
-    let e : n - a ≡ suc (n - (a + 1)) = omega arith in
-    ap (λ (m : ℕ). upFrom a m) e ∙ ap (λ (m : ℕ). a ∷ upFrom m (n - (a + 1))) (sym (add-one a))
-
-pub up-none : (a n : ℕ) → n ≤ a → upFrom a (n - a) ≡ []
-unfolding upFrom
-up-none a n h = let e : n - a ≡ 0 = omega arith in ap (λ (m : ℕ). upFrom a m) e
 
 pub pigeonhole : (n : ℕ) (xs : List ℕ) → Distinct xs → Within (λ (x : ℕ). x < n) xs → length xs ≤ n
 pigeonhole n xs d w =

@@ -1,4 +1,4 @@
--- A pair of numbers (document 03): an arc's tail and head, a fit's two cameras, the numbers of a body frame.
+-- A pair of numbers (document 03): an arc's tail and head as they are read and stored, a fit's two cameras, the numbers of a body frame.
 --   pair a b           the pair of a and b
 --   noPair             the pair of zeros, read past a list's end
 --   ends xs            the numbers of the pairs, both of each, in order

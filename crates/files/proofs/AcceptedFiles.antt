@@ -12,13 +12,13 @@ use borrow.Author.Tests.{eqb-true, leb-true, ltb-true}
 use lib.ListN.{length}
 use Rattle.formats.specs.Limits.{arcsMost, camerasMost, fitsMost, matePairsMost}
 use Rattle.counting.specs.Tests.{all}
-use Rattle.counting.specs.Pairs.{noPair, pairNamed}
+use Rattle.counting.specs.Pairs.{pairNamed}
 use Rattle.counting.proofs.Booleans.{and-left, and-right}
 use Rattle.counting.proofs.Membership.{all-getD}
 use Rattle.frames.specs.Frames.{isIn, hexAt, firstLine}
 use Rattle.frames.specs.Questions.{answerTo}
 use Rattle.frames.proofs.Questions.{accepted}
-use Rattle.skew.specs.Graph.{nodes, arcAt}
+use Rattle.skew.specs.Graph.{noArc, nodes, arcAt}
 use Rattle.skew.specs.Paths.{WellFormed}
 use Rattle.matching.specs.Promise.{WellFormedStock}
 use Rattle.files.specs.GraphFile.{graphIn, arcNamed, basicGraphFault, basicQuestions}
@@ -40,7 +40,7 @@ module _ (f : List ℕ) (e : basicGraphFault f ≡ 0) where
             };
         head-node =
             λ i h.
-            ltb-true _ _ (and-right (ltb (arcAt (graphIn f) i .first) (nodes (graphIn f))) _ (all-getD (arcNamed (graphIn f)) (graphIn f .arcs) noPair i (graph-yes 9) h));
+            ltb-true _ _ (and-right (ltb (arcAt (graphIn f) i .tail) (nodes (graphIn f))) _ (all-getD (arcNamed (graphIn f)) (graphIn f .arcs) noArc i (graph-yes 9) h));
         source-node = ltb-true _ _ (and-right (isIn 1 matePairsMost (hexAt 2 2 (firstLine f))) _ (graph-yes 5));
       }
 
@@ -66,7 +66,7 @@ module _ (f : List ℕ) (e : stockFault f ≡ 0) where
       record {
         named = and-left (all (pairNamed (stockIn f .cameras)) (stockIn f .fits)) _ (stock-yes 9);
         rising = stock-yes 11;
-        litRising = stock-yes 12;
-        litFits = stock-yes 13;
-        litApart = stock-yes 14;
+        lit-rising = stock-yes 12;
+        lit-fits = stock-yes 13;
+        lit-apart = stock-yes 14;
       }

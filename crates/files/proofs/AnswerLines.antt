@@ -1,27 +1,27 @@
 -- Lines of an answer, seven bytes for each value, written one behind the other.
---   writing-start, writing-step, writing-end    none is written; one more is; all are
+--   writing-start, writing-next, writing-end    none is written; one more is; all are
 --   class-lines, mark-lines, path-lines         document 03's lines are such lines
 --   plan-text, budget-text                      and so are a plan's and a budget's, by first cameras, the second ones looked up
 --   plan-size, budget-size, sheet-size          how many bytes a plan, a budget's answer and a standing sheet take
 --   half-written                                a plan or a standing sheet written: a header of four digits, lines and an end frame
 --   front-written, first-written                a text written at the front, as document 03 has it; the same of three parts
-use mathlib.Core.Path.{_≡_, refl, ap, sym, _∙_}
+use mathlib.Core.Path.{_≡_, refl, ap}
 use mathlib.Core.List.{List, [], _∷_, _++_}
 use Prim.Native.Nat.{ℕ, suc, _+_, _*_, _≤_, _<_}
 use native.Mathlib.Omega.{arith}
 use native.Mathlib.Numerals.{add-one}
 use lib.ListN.{length, getD, drop, length-append, drop-of-length-le}
-use lib.Seq.{length-sets, drop-cons}
+use lib.Seq.{drop-cons}
 use Rattle.formats.specs.Kinds.{budgetEnd, budgetKind, classKind, markKind, pairKind, planEnd, planKind, stepKind}
 use Rattle.counting.specs.Pairs.{Pair, zipPairs}
+use Rattle.counting.proofs.Loops.{next-in, storing-start, storing-next}
 use Rattle.counting.proofs.Zips.{zip-length}
 use Rattle.frames.specs.Frames.{frame4, frame6, frame8, frameOf4}
 use Rattle.frames.specs.Writes.{Written}
-use Rattle.frames.proofs.Writes.{written-rest, written-then, written-over, hexBytes-length, frame6-length}
+use Rattle.frames.proofs.Writes.{written-then, written-over, text-end, hexBytes-length, frame6-length}
 use Rattle.files.specs.StockFile.{markLines, sheetWith, planLines, planText, budgetText}
 use Rattle.files.specs.CertificateFile.{pathLines, classLines}
 use Rattle.files.specs.Answers.{eachLine, Writing, WrittenFirst}
-use Rattle.files.proofs.Scans.{drop-next}
 
 -- LINE BY LINE
 each-length : (f : ℕ → ℕ → List ℕ) (i : ℕ) (xs : List ℕ) → ((i x : ℕ) → length (f i x) ≡ 7) → length (eachLine f i xs) ≡ 7 * length xs
@@ -30,31 +30,24 @@ each-length f i [] h = refl
 each-length f i (x ∷ xs) h = rw (length-append, h i x, each-length f (suc i) xs h) (omega arith)
 
 pub writing-start : (f : ℕ → ℕ → List ℕ) (xs out : List ℕ) (at : ℕ) → Writing f xs out at out at 0
-writing-start f xs out at = record { within = omega arith; place = omega arith; long = refl; rest = refl }
+writing-start f xs out at = record { within = omega arith; place = omega arith; stores = storing-start out at (eachLine f 0 xs) }
 
 module _ {f : ℕ → ℕ → List ℕ} {xs before : List ℕ} {at : ℕ} {out : List ℕ} {next i : ℕ} (w : Writing f xs before at out next i) where
-  pub writing-step : {after : List ℕ} {end : ℕ} → i < length xs → Written out next 7 (f i (getD xs i 0)) after end →
+  pub writing-next : {after : List ℕ} {end : ℕ} → i < length xs → Written out next 7 (f i (getD xs i 0)) after end →
       Writing f xs before at after end (i + 1)
   unfolding eachLine
-  writing-step {after} {end} h v =
-      let e : eachLine f i (drop i xs) ≡ f i (getD xs i 0) ++ eachLine f (i + 1) (drop (i + 1) xs) = rw (drop-next xs 0 i h, add-one) in
-      let l : length after ≡ length out = rw (v .bytes) (length-sets out next (f i (getD xs i 0))) in
+  writing-next h v =
+      let line = f i (getD xs i 0) in
+      let e : eachLine f i (drop i xs) ≡ line ++ eachLine f (i + 1) (drop (i + 1) xs) = rw (next-in xs 0 i h .is, add-one) in
       record {
         within = omega arith;
         place = omega (arith, w .place, v .place);
-        long = l ∙ w .long;
-        rest = w .rest ∙ rw e (sym (written-rest v (eachLine f (i + 1) (drop (i + 1) xs))));
+        stores = storing-next (w .stores) line e (v .bytes) (omega (arith, v .place, v .full));
       }
 
   pub writing-end : ((i x : ℕ) → length (f i x) ≡ 7) → length xs ≤ i → Written before at (7 * length xs) (eachLine f 0 xs) out next
   unfolding eachLine
-  writing-end h k =
-      let e : eachLine f i (drop i xs) ≡ [] = rw (drop-of-length-le xs k) in
-      record {
-        bytes = sym (w .rest ∙ rw e);
-        full = each-length f 0 xs h;
-        place = omega (arith, w .place, w .within);
-      }
+  writing-end h k = text-end (w .stores) (rw (drop-of-length-le xs k)) (each-length f 0 xs h)
 
 -- DOCUMENT 03'S LINES
 pub class-lines : (v : ℕ) (cs : List ℕ) → eachLine (frame6 classKind) v cs ≡ classLines v cs

@@ -113,7 +113,7 @@ module _ {f xs ys : List ℕ} {bound n c : ℕ} (r : PathRead f xs ys bound n c)
       let b = back-numbers (pathArcs f) (r .answer .counts ∙ answered-none (length (bodyLines f)) e ∙ sym (numbers-length (bodyLines f))) p in
       record {
         room = b .0;
-        arcsAre = b .1;
+        arcs-are = b .1;
         below = rw (b .1) (λ k h. ltb-true _ _ (all-getD (λ (i : ℕ). ltb i bound) (pathArcs f) 0 k nine h));
       }
 
@@ -186,4 +186,4 @@ module _ {f xs ys us vs : List ℕ} {bound n c : ℕ} (r : BarrierRead f xs ys u
       let k = r .answer .counts ∙ answered-none (length (bodyLines f)) e ∙ sym (only-count s classKind refl refl (λ q. omega arith)) in
       let p = subst (λ (zs : List Pair). PairsStored zs xs ys us vs) (stored-all (barrierSized bound f) lines none) (r .stores) in
       let h = back-holds lines k p in
-      record { room = h .second; classesAre = rw (← back-pairs lines k p) (sym (seconds-are h)) }
+      record { room = h .second; classes-are = rw (← back-pairs lines k p) (sym (seconds-are h)) }

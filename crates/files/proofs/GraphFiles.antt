@@ -29,9 +29,10 @@ use Rattle.frames.proofs.HeaderFrames.{first-number, second-line}
 use Rattle.frames.proofs.ShapeFaults.{shape-header, shape-five, shape-body, sized-shape, sized-eight, read-shaped}
 use Rattle.frames.proofs.StoredBodies.{body-storable, only-size, only-pairs, only-count}
 use Rattle.frames.proofs.Stores.{stored-as}
-use Rattle.skew.specs.Graph.{nodes}
+use Rattle.skew.specs.Graph.{Arc, arcsOf, nodes}
+use Rattle.skew.proofs.Arcs.{arcs-length}
 use Rattle.files.specs.Tables.{Holds}
-use Rattle.files.specs.GraphFile.{headerFits, graphIn, graphFault, numbersFit, arcsFit, graphSized, arcsQuestions}
+use Rattle.files.specs.GraphFile.{headerFits, arcPairs, graphIn, graphFault, numbersFit, arcsFit, graphSized, arcsQuestions}
 use Rattle.files.specs.Readers.{GraphTold, GraphHeld, GraphRead}
 use Rattle.files.proofs.Tables.{stored-all, all-pairs, no-pairs, back-holds, back-pairs}
 use Rattle.files.proofs.Asked.{graph-asked}
@@ -96,12 +97,15 @@ no-graph {f} {ts} {hs} e h t =
       pairs-are = beside-refused 0 (graphIn f .pairs) h (t .0) (t .1);
       source-is = beside-refused 0 (graphIn f .source) h (t .0) (t .2);
       arcs-are = beside-refused 0 (length (graphIn f .arcs)) h (t .0) (t .3);
-      stores = no-pairs (graphSized f) (graphIn f .arcs) ts hs d;
+      stores = no-pairs (graphSized f) (arcPairs f) ts hs d;
     }
 
 module _ {f : List ℕ} {next p s count firsts : ℕ} (g : GraphBody f next p s count firsts) where
+  pairs-count : length (arcPairs f) ≡ count
+  pairs-count = only-count (g .shaped) arcKind refl refl (λ q. omega arith)
+
   count-is : length (graphIn f .arcs) ≡ count
-  count-is = only-count (g .shaped) arcKind refl refl (λ q. omega arith)
+  count-is = arcs-length (arcPairs f) ∙ pairs-count
 
   eight : firstNo (graphSized f) ≡ firstNo (ask 8 (arcsFit (length (graphIn f .arcs))) ∷ [])
   eight = sized-eight graphForm f (headerFits f) (arcsFit (length (graphIn f .arcs))) (g .none)
@@ -119,20 +123,20 @@ module _ {f : List ℕ} {next p s count firsts : ℕ} (g : GraphBody f next p s 
       (body-storable (g .shaped) (omega arith), omega (arith, n, r), omega (arith, n, r))
 
   module _ {ts hs us vs : List ℕ} {n turn : ℕ} (st : StoredPairs arcKind f next ts hs us vs n turn) where
-    arcs-here : (n ≡ length (graphIn f .arcs)) × PairsStored (graphIn f .arcs) ts hs us vs
-    arcs-here = stored-as (graphIn f .arcs) st (only-pairs (g .shaped) arcKind refl refl (λ q. omega arith))
+    arcs-here : (n ≡ length (arcPairs f)) × PairsStored (arcPairs f) ts hs us vs
+    arcs-here = stored-as (arcPairs f) st (only-pairs (g .shaped) arcKind refl refl (λ q. omega arith))
 
     pub graph-holds : Holds count us vs
-    graph-holds = back-holds (graphIn f .arcs) (sym count-is) (arcs-here .1)
+    graph-holds = back-holds (arcPairs f) (sym pairs-count) (arcs-here .1)
 
-    arcs-back : pairsOf count us vs ≡ graphIn f .arcs
-    arcs-back = back-pairs (graphIn f .arcs) (sym count-is) (arcs-here .1)
+    arcs-back : arcsOf (pairsOf count us vs) ≡ graphIn f .arcs
+    arcs-back = ap arcsOf (back-pairs (arcPairs f) (sym pairs-count) (arcs-here .1))
 
-    pub graph-read : {k number pairs source arcs : ℕ} → count % 2 ≡ 0 → count ≤ arcsMost → k ≡ firstNo (arcsQuestions (2 * p) (pairsOf count us vs)) →
+    pub graph-read : {k number pairs source arcs : ℕ} → count % 2 ≡ 0 → count ≤ arcsMost → k ≡ firstNo (arcsQuestions (2 * p) (arcsOf (pairsOf count us vs))) →
         GraphTold k p s count number pairs source arcs → GraphRead f ts hs us vs number pairs source arcs
     graph-read even few q t =
         let none : firstNo (graphSized f) ≡ 0 = eight ∙ rw (count-is, eq-eqb _ _ even, le-leb _ _ few) in
-        let later = ap (λ (xs : List Pair). firstNo (arcsQuestions (2 * p) xs)) arcs-back ∙ ap (λ (i : ℕ). firstNo (arcsQuestions (2 * i) (graphIn f .arcs))) (g .pairs-are) in
+        let later = ap (λ (xs : List Arc). firstNo (arcsQuestions (2 * p) xs)) arcs-back ∙ ap (λ (i : ℕ). firstNo (arcsQuestions (2 * i) (graphIn f .arcs))) (g .pairs-are) in
         record {
           says =
               t .0 ∙ q ∙ later ∙
@@ -140,7 +144,7 @@ module _ {f : List ℕ} {next p s count firsts : ℕ} (g : GraphBody f next p s 
           pairs-are = beside-same (t .0) (t .1) (g .pairs-are);
           source-is = beside-same (t .0) (t .2) (g .source-is);
           arcs-are = beside-same (t .0) (t .3) (sym count-is);
-          stores = all-pairs (graphSized f) (graphIn f .arcs) none (arcs-here .1);
+          stores = all-pairs (graphSized f) (arcPairs f) none (arcs-here .1);
         }
 
 -- WHERE NOTHING IS REFUSED
@@ -148,11 +152,11 @@ pub graph-held : {f ts hs us vs : List ℕ} {n p s a : ℕ} → GraphRead f ts h
 graph-held {f} {ts} {hs} {us} {vs} r e =
     let fault : graphFault f ≡ 0 = sym (r .says) ∙ e in
     let none = first-none (graphSized f) (arcsQuestions (nodes (graphIn f)) (graphIn f .arcs)) refl (sym (graph-asked f) ∙ fault) .0 in
-    let p = subst (λ (xs : List Pair). PairsStored xs ts hs us vs) (stored-all (graphSized f) (graphIn f .arcs) none) (r .stores) in
-    let c = r .arcs-are ∙ answered-none _ e in
+    let p = subst (λ (xs : List Pair). PairsStored xs ts hs us vs) (stored-all (graphSized f) (arcPairs f) none) (r .stores) in
+    let c = r .arcs-are ∙ answered-none _ e ∙ arcs-length (arcPairs f) in
     record {
-      pairsAre = r .pairs-are ∙ answered-none _ e;
-      sourceIs = r .source-is ∙ answered-none _ e;
-      room = back-holds (graphIn f .arcs) c p;
-      arcsAre = back-pairs (graphIn f .arcs) c p;
+      pairs-are = r .pairs-are ∙ answered-none _ e;
+      source-is = r .source-is ∙ answered-none _ e;
+      room = back-holds (arcPairs f) c p;
+      arcs-are = ap arcsOf (back-pairs (arcPairs f) c p);
     }

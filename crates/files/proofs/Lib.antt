@@ -1,7 +1,6 @@
 -- Laws by subject; each file stands on those above it.
---   Scans            a list asked from its front
 --   Tables           pairs that stand in two slices
---   PairScans        questions 9 to 13 and 16 put to such pairs from the front
+--   PairScans        questions 9 of a barrier and 10 to 13 put to such pairs from the front
 --   SharedCameras    question 14, with a table of marks
 --   AnswerLines      answers written line by line
 --   AnswerEnds       an answer is whole lines, each ended by a line feed alone
@@ -18,7 +17,6 @@
 --   CertificateFiles the questions of a certificate
 --   FirstLines       which kind of certificate a file is, by its first line
 --   ArcTables        a graph that was read, as the search takes it
-pub mod Scans
 pub mod Tables
 pub mod PairScans
 pub mod SharedCameras

@@ -93,7 +93,7 @@ module _ {f : List ℕ} {number next count : ℕ} (a : ShapeAnswer planForm f nu
       module _ (same : c ≡ count) where
         -- two digits tell at most 255
         few : count ≤ planPairsMost
-        few = let h = hex-small 2 2 _ (plan-shaped .headerDigits) in omega (arith, told-is)
+        few = let h = hex-small 2 2 _ (plan-shaped .header-digits) in omega (arith, told-is)
 
         pub plan-room : {us vs : List ℕ} → Holds planPairsMost us vs →
             Storable f next × (length (runAt pairKind f next) ≤ length us) × (length (runAt pairKind f next) ≤ length vs)
@@ -134,7 +134,7 @@ plan-held {cameras} {fits} {f} {us} {vs} {us'} {vs'} r e =
     let none = both-none cameras fits f (sym (r .says) ∙ e) .0 in
     let p = subst (λ (zs : List Pair). PairsStored zs us vs us' vs') (stored-all (planShape f) (planPairs f) none) (r .stores) in
     let n = r .counts ∙ answered-none _ e in
-    record { room = back-holds (planPairs f) n p; pairsAre = back-pairs (planPairs f) n p }
+    record { room = back-holds (planPairs f) n p; pairs-are = back-pairs (planPairs f) n p }
 
 -- pairs that are named, rise and share no camera are a pairing of themselves: twice as many cameras
 pairing-few : (n : ℕ) (fs ps : List Pair) → firstNo (pairingQuestions n fs ps) ≡ 0 → 2 * length ps ≤ n
@@ -144,9 +144,9 @@ pairing-few n fs ps e =
     record {
       named = accepted 9 (pairingQuestions n fs ps) refl e;
       rising = accepted 12 (pairingQuestions n fs ps) refl e;
-      litRising = accepted 12 (pairingQuestions n fs ps) refl e;
-      litFits = each-all (hasPair ps) ps (in-has-pair ps);
-      litApart = accepted 14 (pairingQuestions n fs ps) refl e;
+      lit-rising = accepted 12 (pairingQuestions n fs ps) refl e;
+      lit-fits = each-all (hasPair ps) ps (in-has-pair ps);
+      lit-apart = accepted 14 (pairingQuestions n fs ps) refl e;
     } in
     omega (arith, list-count n ps (well-formed-fits s w) ps (well-formed-lit s w))
 

@@ -13,14 +13,13 @@ use Prim.Native.Nat.{ℕ}
 use lib.Dec.{eqb}
 use borrow.Author.Tests.{eq-eqb, eqb-true, eqb-false, not-true, not-false}
 use Rattle.counting.specs.Tests.{all}
-use Rattle.counting.specs.Pairs.{noPair, pairNamed}
 use Rattle.counting.proofs.Booleans.{or-false-left, by-test, true-false}
 use Rattle.counting.proofs.Membership.{all-getD, getD-all, getD-fails}
 use Rattle.frames.specs.Questions.{firstNo}
 use Rattle.frames.proofs.Questions.{first-stop, first-go, refusal-is}
-use Rattle.skew.specs.Graph.{Graph, nodes, matesFit, hasTwoEnds}
+use Rattle.skew.specs.Graph.{noArc, Graph, nodes, matesFit, hasTwoEnds}
 use Rattle.skew.specs.Paths.{tail, head}
-use Rattle.files.specs.GraphFile.{graphIn, graphFault, basicGraphFault, graphSized, arcsQuestions, graphQuestions, basicArcsQuestions, basicQuestions}
+use Rattle.files.specs.GraphFile.{graphIn, graphFault, basicGraphFault, endsNamed, graphSized, arcsQuestions, graphQuestions, basicArcsQuestions, basicQuestions}
 use Rattle.files.specs.SelfArcs.{SelfArc, selfArcFault, OthersAsBefore, SelfArcsRefused, AcceptedIs, SixteenIs}
 use Rattle.files.proofs.Asked.{graph-asked, basic-asked}
 
@@ -28,13 +27,13 @@ use Rattle.files.proofs.Asked.{graph-asked, basic-asked}
 module _ (g : Graph) where
   pub two-ends : (SelfArc g → ⊥) → all hasTwoEnds (g .arcs) ≡ true
   two-ends h =
-      getD-all hasTwoEnds (g .arcs) noPair (λ i l. by-test (eqb (tail g i) (head g i)) (λ t. absurd (h (i, l, eqb-true _ _ t))) (λ t. rw t))
+      getD-all hasTwoEnds (g .arcs) noArc (λ i l. by-test (eqb (tail g i) (head g i)) (λ t. absurd (h (i, l, eqb-true _ _ t))) (λ t. rw t))
 
   self-arc : all hasTwoEnds (g .arcs) ≡ false → SelfArc g
-  self-arc e = let r = getD-fails hasTwoEnds (g .arcs) noPair e in (r .0, r .1, eqb-true _ _ (not-false _ (r .2)))
+  self-arc e = let r = getD-fails hasTwoEnds (g .arcs) noArc e in (r .0, r .1, eqb-true _ _ (not-false _ (r .2)))
 
   pub no-self-arc : all hasTwoEnds (g .arcs) ≡ true → SelfArc g → ⊥
-  no-self-arc e (i, l, same) = true-false (eq-eqb _ _ same) (not-true _ (all-getD hasTwoEnds (g .arcs) noPair i e l))
+  no-self-arc e (i, l, same) = true-false (eq-eqb _ _ same) (not-true _ (all-getD hasTwoEnds (g .arcs) noArc i e l))
 
   one-end : SelfArc g → all hasTwoEnds (g .arcs) ≡ false
   one-end s = by-test (all hasTwoEnds (g .arcs)) (λ t. absurd (no-self-arc t s)) (λ t. t)
@@ -59,7 +58,7 @@ self-arcs-refused f s =
     let z = eqb-true n 0 t in
     let one = first-go (graphSized f) later refl z in
     let other = first-go (graphSized f) basic refl z in
-    by-test (all (pairNamed (nodes (graphIn f))) (graphIn f .arcs))
+    by-test (all (endsNamed (nodes (graphIn f))) (graphIn f .arcs))
     (λ a. by-test (matesFit (graphIn f .arcs)) (λ b. fault 0 (one ∙ rw (a, some)) (other ∙ rw (a, b))) (λ b. fault 10 (one ∙ rw (a, some)) (other ∙ rw (a, b))))
     (λ a. fault 9 (one ∙ rw a) (other ∙ rw a)))
     (λ t.

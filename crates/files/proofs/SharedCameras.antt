@@ -1,8 +1,8 @@
 -- No camera in two pairs, asked with a table that has a flag for each camera passed.
 --   sharesNone flags pairs           the pairs share no camera, and have none that is flagged
 --   shared-start                     a table of zeros leaves every pair free
---   shared-step                      a free pair: its cameras are flagged, and what is asked goes on behind it
---   shared-first, shared-second      a camera that is flagged: it is in two pairs
+--   shared-next                      a free pair: its cameras are flagged, and what is asked goes on behind it
+--   shared-fails-first, -second      a camera that is flagged: it is in two pairs
 --   shared-end                       there is no pair left
 use mathlib.Core.Path.{_≡_, refl, sym}
 use mathlib.Core.Bool.{Bool, true, false, _&&_, _||_, not, and-false, and-assoc}
@@ -67,17 +67,17 @@ module _ {n : ℕ} {us vs : List ℕ} (r : Holds n us vs) (ts : List ℕ) (i : �
   shared-end h = rw (pairs-none r i h)
 
   module _ (h : i < n) where
-    pub shared-first : 0 < getD ts (getD us i 0) 0 → sharesNone ts (drop i (pairsOf n us vs)) ≡ false
+    pub shared-fails-first : 0 < getD ts (getD us i 0) 0 → sharesNone ts (drop i (pairsOf n us vs)) ≡ false
     unfolding sharesNone all
-    shared-first e = rw (pairs-next r i h, lt-ltb _ _ e)
+    shared-fails-first e = rw (pairs-next r i h .is, lt-ltb _ _ e)
 
-    pub shared-second : 0 < getD ts (getD vs i 0) 0 → sharesNone ts (drop i (pairsOf n us vs)) ≡ false
+    pub shared-fails-second : 0 < getD ts (getD vs i 0) 0 → sharesNone ts (drop i (pairsOf n us vs)) ≡ false
     unfolding sharesNone all
-    shared-second e = rw (pairs-next r i h, lt-ltb _ _ e, and-false (not (isFlagged ts (getD us i 0))))
+    shared-fails-second e = rw (pairs-next r i h .is, lt-ltb _ _ e, and-false (not (isFlagged ts (getD us i 0))))
 
-    pub shared-step : length ts ≡ 256 → getD us i 0 < 256 → getD vs i 0 < 256 → getD ts (getD us i 0) 0 ≤ 0 → getD ts (getD vs i 0) 0 ≤ 0 →
+    pub shared-next : length ts ≡ 256 → getD us i 0 < 256 → getD vs i 0 < 256 → getD ts (getD us i 0) 0 ≤ 0 → getD ts (getD vs i 0) 0 ≤ 0 →
         sharesNone ts (drop i (pairsOf n us vs)) ≡ sharesNone (flagPair ts (pair (getD us i 0) (getD vs i 0))) (drop (i + 1) (pairsOf n us vs))
     unfolding sharesNone
-    shared-step l a b p q =
-        rw (pairs-next r i h)
+    shared-next l a b p q =
+        rw (pairs-next r i h .is)
         (step ts (pair (getD us i 0) (getD vs i 0)) (omega arith) (omega arith) (drop (i + 1) (pairsOf n us vs)) (rw (le-ltb _ _ p, le-ltb _ _ q)))

@@ -90,7 +90,7 @@ no-stock {f} {us} {vs} {xs} {ys} e h t =
 
 module _ {f : List ℕ} {next c count firsts : ℕ} (g : StockBody f next c count firsts) where
   count-is : length (stockIn f .fits) ≡ firsts
-  count-is = sym (g .shaped .firstCounts)
+  count-is = sym (g .shaped .first-counts)
 
   eight : firstNo (stockSized f) ≡ firstNo (ask 8 (leb (length (stockIn f .fits)) fitsMost) ∷ [])
   eight = sized-eight stockForm f (headerFits f) (leb (length (stockIn f .fits)) fitsMost) (g .none)
@@ -168,9 +168,9 @@ stock-held {f} {us} {vs} {xs} {ys} {us'} {vs'} {xs'} {ys'} r e =
     let i = r .fits-are ∙ answered-none _ e in
     let j = r .lit-are ∙ answered-none _ e in
     record {
-      camerasAre = r .cameras-are ∙ answered-none _ e;
-      fitsRoom = back-holds (stockIn f .fits) i p;
-      fitsAre = back-pairs (stockIn f .fits) i p;
-      litRoom = back-holds (stockIn f .lit) j q;
-      litAre = back-pairs (stockIn f .lit) j q;
+      cameras-are = r .cameras-are ∙ answered-none _ e;
+      fits-room = back-holds (stockIn f .fits) i p;
+      fits-are = back-pairs (stockIn f .fits) i p;
+      lit-room = back-holds (stockIn f .lit) j q;
+      lit-are = back-pairs (stockIn f .lit) j q;
     }

@@ -2,25 +2,26 @@
 --   stored-all, all-pairs, all-numbers, no-pairs, no-numbers     what the questions let a reader store: all, or nothing
 --   pairs-length    as many as counted
 --   pairs-at        the pair at a place: what both slices have there
---   pairs-next      from a place on: that pair, and what follows
+--   pairs-next      so it is the next one from a place on
 --   pairs-none      past the count nothing
 --   seconds-are     the second numbers: the second slice
 --   back-numbers, back-holds, back-pairs     numbers and pairs that were stored, read back
 use mathlib.Core.Path.{_≡_, ap, subst, sym, _∙_}
 use mathlib.Core.Logic.{_≢_}
-use mathlib.Core.List.{List, [], _∷_}
-use Prim.Native.Nat.{ℕ, _+_, _≤_, _<_}
+use mathlib.Core.List.{List, []}
+use Prim.Native.Nat.{ℕ, _≤_, _<_}
 use native.Mathlib.Omega.{arith}
 use lib.ListN.{length, getD, take, drop, drop-of-length-le}
 use lib.Seq.{length-sets, length-take-le, getD-take}
 use borrow.Author.Tests.{ne-eqb}
 use Rattle.counting.specs.Pairs.{Pair, pair, noPair, firstsOf, secondsOf, pairsOf}
+use Rattle.counting.specs.Loops.{Next}
+use Rattle.counting.proofs.Loops.{next-in}
 use Rattle.counting.proofs.Stores.{take-sets}
 use Rattle.counting.proofs.Zips.{zip-length, zip-at, zip-seconds, pairs-stored}
 use Rattle.frames.specs.Questions.{Question, firstNo}
 use Rattle.frames.specs.Stores.{PairsStored, NumbersStored}
 use Rattle.files.specs.Tables.{Holds, stored}
-use Rattle.files.proofs.Scans.{drop-next}
 
 -- WHAT IS STORED, and nothing where a question is answered no
 pub stored-all : {A : Type 0} (qs : List Question) (xs : List A) → firstNo qs ≡ 0 → stored qs xs ≡ xs
@@ -62,10 +63,8 @@ module _ {n : ℕ} {us vs : List ℕ} (r : Holds n us vs) where
         let l = length-take-le n us (r .first) in
         zip-at (take n us) (take n vs) i same-length (omega arith) ∙ rw (getD-take n us i 0 h, getD-take n vs i 0 h)
 
-    pub pairs-next : i < n → drop i (pairsOf n us vs) ≡ pair (getD us i 0) (getD vs i 0) ∷ drop (i + 1) (pairsOf n us vs)
-    pairs-next h =
-        let l = pairs-length in
-        drop-next (pairsOf n us vs) noPair i (omega arith) ∙ rw (pairs-at h)
+    pub pairs-next : i < n → Next (pairsOf n us vs) i (pair (getD us i 0) (getD vs i 0))
+    pairs-next h = let l = pairs-length in rw (pairs-at h) at (next-in (pairsOf n us vs) noPair i (omega arith))
 
     pub pairs-none : n ≤ i → drop i (pairsOf n us vs) ≡ []
     pairs-none h = let l = pairs-length in drop-of-length-le (pairsOf n us vs) {i = i} (omega arith)

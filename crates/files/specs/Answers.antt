@@ -7,7 +7,7 @@ use mathlib.Core.Path.{_≡_}
 use mathlib.Core.List.{List, [], _∷_, _++_}
 use Prim.Native.Nat.{ℕ, suc, _+_, _*_, _≤_}
 use lib.ListN.{length, drop}
-use lib.Seq.{sets}
+use Rattle.counting.specs.Loops.{Storing}
 
 abbrev pub over : (new old : List ℕ) → List ℕ
 over xs old = xs ++ drop (length xs) old
@@ -19,8 +19,7 @@ eachLine f i (x ∷ xs) = f i x ++ eachLine f (suc i) xs
 pub record Writing (f : ℕ → ℕ → List ℕ) (xs before : List ℕ) (at : ℕ) (out : List ℕ) (next i : ℕ) : Type 0 where
   pub within : i ≤ length xs
   pub place : next ≡ at + 7 * i
-  pub long : length out ≡ length before
-  pub rest : sets before at (eachLine f 0 xs) ≡ sets out next (eachLine f i (drop i xs))
+  pub stores : Storing before at (eachLine f 0 xs) out next (eachLine f i (drop i xs))
 
 pub record WrittenFirst (text before after : List ℕ) (size : ℕ) : Type 0 where
   pub bytes : after ≡ over text before

@@ -23,7 +23,7 @@ pub record CertificateAnswer (questions : List Question) (f : List ℕ) (number 
 
 pub record PathHeld (f arcs : List ℕ) (bound count : ℕ) : Type 0 where
   pub room : count ≤ length arcs
-  pub arcsAre : take count arcs ≡ pathArcs f
+  pub arcs-are : take count arcs ≡ pathArcs f
   pub below : (k : ℕ) → k < length (take count arcs) → getD (take count arcs) k 0 < bound
 
 pub record PathRead (f arcs arcsAfter : List ℕ) (bound number count : ℕ) : Type 0 where
@@ -32,7 +32,7 @@ pub record PathRead (f arcs arcsAfter : List ℕ) (bound number count : ℕ) : T
 
 pub record BarrierHeld (f classes : List ℕ) (count : ℕ) : Type 0 where
   pub room : count ≤ length classes
-  pub classesAre : take count classes ≡ barrierClasses f
+  pub classes-are : take count classes ≡ barrierClasses f
 
 pub record BarrierRead (f nodes classes nodesAfter classesAfter : List ℕ) (bound number count : ℕ) : Type 0 where
   pub answer : CertificateAnswer (barrierQuestions bound f) f number count

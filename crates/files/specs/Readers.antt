@@ -10,6 +10,7 @@ use mathlib.Core.List.{List}
 use Prim.Native.Nat.{ℕ}
 use lib.ListN.{length}
 use Rattle.counting.specs.Pairs.{Pair, pairsOf}
+use Rattle.skew.specs.Graph.{arcsOf}
 use Rattle.frames.specs.Questions.{answered}
 use Rattle.frames.specs.Stores.{PairsStored}
 use Rattle.files.specs.Tables.{Holds}
@@ -23,10 +24,10 @@ GraphTold n p s a number pairs source arcs =
     (number ≡ n) × (pairs ≡ answered n p) × (source ≡ answered n s) × (arcs ≡ answered n a)
 
 pub record GraphHeld (f tails heads : List ℕ) (pairs source arcs : ℕ) : Type 0 where
-  pub pairsAre : pairs ≡ graphIn f .pairs
-  pub sourceIs : source ≡ graphIn f .source
+  pub pairs-are : pairs ≡ graphIn f .pairs
+  pub source-is : source ≡ graphIn f .source
   pub room : Holds arcs tails heads
-  pub arcsAre : pairsOf arcs tails heads ≡ graphIn f .arcs
+  pub arcs-are : arcsOf (pairsOf arcs tails heads) ≡ graphIn f .arcs
 
 pub record GraphRead (f tails heads tailsAfter headsAfter : List ℕ) (number pairs source arcs : ℕ) : Type 0 where
   pub says : number ≡ graphFault f
@@ -41,11 +42,11 @@ StockTold n c k l number cameras fits lit =
     (number ≡ n) × (cameras ≡ answered n c) × (fits ≡ answered n k) × (lit ≡ answered n l)
 
 pub record StockHeld (f firsts seconds ones others : List ℕ) (cameras fits lit : ℕ) : Type 0 where
-  pub camerasAre : cameras ≡ stockIn f .cameras
-  pub fitsRoom : Holds fits firsts seconds
-  pub fitsAre : pairsOf fits firsts seconds ≡ stockIn f .fits
-  pub litRoom : Holds lit ones others
-  pub litAre : pairsOf lit ones others ≡ stockIn f .lit
+  pub cameras-are : cameras ≡ stockIn f .cameras
+  pub fits-room : Holds fits firsts seconds
+  pub fits-are : pairsOf fits firsts seconds ≡ stockIn f .fits
+  pub lit-room : Holds lit ones others
+  pub lit-are : pairsOf lit ones others ≡ stockIn f .lit
 
 pub record StockRead (f firsts seconds ones others firstsAfter secondsAfter onesAfter othersAfter : List ℕ) (number cameras fits lit : ℕ) : Type 0 where
   pub says : number ≡ stockFault f
@@ -58,7 +59,7 @@ pub record StockRead (f firsts seconds ones others firstsAfter secondsAfter ones
 -- A PLAN
 pub record PlanHeld (f firsts seconds : List ℕ) (count : ℕ) : Type 0 where
   pub room : Holds count firsts seconds
-  pub pairsAre : pairsOf count firsts seconds ≡ planPairs f
+  pub pairs-are : pairsOf count firsts seconds ≡ planPairs f
 
 pub record PlanRead (cameras : ℕ) (fits : List Pair) (f firsts seconds firstsAfter secondsAfter : List ℕ) (number count : ℕ) : Type 0 where
   pub says : number ≡ planFault cameras fits f

@@ -1,5 +1,5 @@
 // Graph files read: questions 2 to 9, 16 and 10, and the arcs stored (document 01, "Questions put to a call"; 16: document 02, L5).
-//   Graph          a graph as it was read
+//   GraphNumbers   a graph as it was read
 //   header_fits    question 5
 //   arcs_fault     questions 9, 16 and 10
 //   told           the numbers beside a number of the questions
@@ -17,13 +17,14 @@ use frames::store::store_pairs;
 ghost use mathlib.Core.Path.{_≡_};
 ghost use Rattle.formats.specs.Limits.{arcsMost};
 ghost use Rattle.counting.specs.Pairs.{pairsOf};
+ghost use Rattle.skew.specs.Graph.{arcsOf};
 ghost use Rattle.frames.specs.Questions.{firstNo};
 ghost use Rattle.files.specs.GraphFile.{numbersFit, arcsQuestions};
 ghost use Rattle.files.specs.Tables.{Holds};
 ghost use Rattle.files.specs.Readers.{GraphTold, GraphRead};
 
 // A graph as it was read: the refusal, or 0 and its numbers; beside a refusal they are 0.
-pub struct Graph {
+pub struct GraphNumbers {
     pub number: u8,
     pub pairs: usize,
     pub source: usize,
@@ -46,7 +47,7 @@ fn header_fits(pairs: usize, source: usize) -> bool
 // 9, 16 and 10, of arcs between so many nodes: the first answered no, or 0.
 fn arcs_fault(tails: &[u8], heads: &[u8], arcs: usize, nodes: usize) -> u8
     requires { ⌜ Holds arcs (now tails) (now heads) ⌝ }
-    ensures { λ r. ⌜ r ≡ firstNo (arcsQuestions nodes (pairsOf arcs (now (tails .entry)) (now (heads .entry)))) ⌝ }
+    ensures { λ r. ⌜ r ≡ firstNo (arcsQuestions nodes (arcsOf (pairsOf arcs (now (tails .entry)) (now (heads .entry))))) ⌝ }
 {
     if !are_named(tails, heads, arcs, nodes) {
         return 9;
@@ -60,18 +61,18 @@ fn arcs_fault(tails: &[u8], heads: &[u8], arcs: usize, nodes: usize) -> u8
     0
 }
 
-fn told(number: u8, pairs: usize, source: usize, arcs: usize) -> Graph
+fn told(number: u8, pairs: usize, source: usize, arcs: usize) -> GraphNumbers
     ensures { λ r. ⌜ GraphTold number pairs source arcs (r .number) (r .pairs) (r .source) (r .arcs) ⌝ }
 {
     if number != 0 {
-        return Graph {
+        return GraphNumbers {
             number,
             pairs: 0,
             source: 0,
             arcs: 0,
         };
     }
-    Graph {
+    GraphNumbers {
         number,
         pairs,
         source,
@@ -80,7 +81,7 @@ fn told(number: u8, pairs: usize, source: usize, arcs: usize) -> Graph
 }
 
 // The graph of a file, with its arcs in the slices.
-pub fn read_graph(f: &[u8], tails: &mut [u8], heads: &mut [u8]) -> Graph
+pub fn read_graph(f: &[u8], tails: &mut [u8], heads: &mut [u8]) -> GraphNumbers
     requires { ⌜ Holds arcsMost (now tails) (now heads) ⌝ }
     ensures { λ r. ⌜ GraphRead (now (f .entry)) (now (tails .entry)) (now (heads .entry)) (now (tails .exit)) (now (heads .exit)) (r .number) (r .pairs) (r .source) (r .arcs) ⌝ }
 {

@@ -18,7 +18,7 @@ ghost use lib.ListN.{length, take};
 ghost use Rattle.counting.specs.Tests.{all};
 ghost use Rattle.counting.specs.Pairs.{pair, pairsOf, pairNamed};
 ghost use Rattle.frames.specs.Questions.{firstNo};
-ghost use Rattle.skew.specs.Graph.{matesFit, hasTwoEnds};
+ghost use Rattle.skew.specs.Graph.{arcsOf, matesFit, hasTwoEnds};
 ghost use Rattle.matching.specs.Stock.{noneShared, pairBefore, pairsRise};
 ghost use Rattle.matching.specs.LookUp.{isFound};
 ghost use Rattle.files.specs.Tables.{Holds};
@@ -47,7 +47,7 @@ pub fn are_named(firsts: &[u8], seconds: &[u8], count: usize, bound: usize) -> b
 // 16: has every arc two different ends?
 pub fn have_two_ends(tails: &[u8], heads: &[u8], count: usize) -> bool
     requires { ⌜ Holds count (now tails) (now heads) ⌝ }
-    ensures { λ r. ⌜ r ≡ all hasTwoEnds (pairsOf count (now (tails .entry)) (now (heads .entry))) ⌝ }
+    ensures { λ r. ⌜ r ≡ all hasTwoEnds (arcsOf (pairsOf count (now (tails .entry)) (now (heads .entry)))) ⌝ }
 {
     let mut i: usize = 0;
     // invariant: the answer is `all hasTwoEnds` of what stands from i on; falls: arcs left
@@ -63,7 +63,7 @@ pub fn have_two_ends(tails: &[u8], heads: &[u8], count: usize) -> bool
 // 10: is each odd-numbered arc the mate of the one before?
 pub fn are_mated(tails: &[u8], heads: &[u8], count: usize) -> bool
     requires { ⌜ Holds count (now tails) (now heads) ⌝ }
-    ensures { λ r. ⌜ r ≡ matesFit (pairsOf count (now (tails .entry)) (now (heads .entry))) ⌝ }
+    ensures { λ r. ⌜ r ≡ matesFit (arcsOf (pairsOf count (now (tails .entry)) (now (heads .entry)))) ⌝ }
 {
     let mut i: usize = 0;
     // invariant: the answer is `matesFit` of what stands from i on; falls: pairs left

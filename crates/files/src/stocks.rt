@@ -1,5 +1,5 @@
 // Stock files read: questions 2 to 9 and 11 to 14, and the pairs stored (document 01, "Questions put to a call").
-//   Stock          a stock as it was read
+//   StockNumbers   a stock as it was read
 //   pairs_fault    questions 9 and 11 to 14
 //   told           the numbers beside a number of the questions
 //   read_stock     all of them, in order
@@ -22,7 +22,7 @@ ghost use Rattle.files.specs.StockFile.{pairsQuestions};
 ghost use Rattle.files.specs.Readers.{StockTold, StockRead};
 
 // A stock as it was read: the refusal, or 0 and its numbers; beside a refusal they are 0.
-pub struct Stock {
+pub struct StockNumbers {
     pub number: u8,
     pub cameras: usize,
     pub fits: usize,
@@ -54,18 +54,18 @@ fn pairs_fault(
     lit_fault(firsts, seconds, fits, ones, others, lit)
 }
 
-fn told(number: u8, cameras: usize, fits: usize, lit: usize) -> Stock
+fn told(number: u8, cameras: usize, fits: usize, lit: usize) -> StockNumbers
     ensures { λ r. ⌜ StockTold number cameras fits lit (r .number) (r .cameras) (r .fits) (r .lit) ⌝ }
 {
     if number != 0 {
-        return Stock {
+        return StockNumbers {
             number,
             cameras: 0,
             fits: 0,
             lit: 0,
         };
     }
-    Stock {
+    StockNumbers {
         number,
         cameras,
         fits,
@@ -81,7 +81,7 @@ pub fn read_stock(
     seconds: &mut [u8],
     ones: &mut [u8],
     others: &mut [u8],
-) -> Stock
+) -> StockNumbers
     requires { ⌜ Holds fitsMost (now firsts) (now seconds) × Holds linesMost (now ones) (now others) ⌝ }
     ensures { λ r. ⌜ StockRead (now (f .entry)) (now (firsts .entry)) (now (seconds .entry)) (now (ones .entry)) (now (others .entry)) (now (firsts .exit)) (now (seconds .exit)) (now (ones .exit)) (now (others .exit)) (r .number) (r .cameras) (r .fits) (r .lit) ⌝ }
 {

@@ -1,7 +1,7 @@
 -- Files that begin with a text.
 --   begins-short                 a file shorter than the text does not
---   begins-step, begins-other    compared byte by byte: an equal byte, another byte
---   begins-done                  all bytes of the text compared
+--   begins-next, begins-fails    compared byte by byte: an equal byte, another byte
+--   begins-end                   all bytes of the text compared
 --   begins-split                 a file that does is the text and what stands behind it
 --   by-first-line                what holds of every file that begins with a barrier's first line, ended either way
 --   digit-byte, barrier-digits   which byte a digit below ten is; the two digits of a barrier's kind
@@ -40,16 +40,16 @@ module _ (text f : List ℕ) (i : ℕ) where
   unfolding beginsWith
   begins-at h k = rw (add-one, drop-cons text i 0 h, drop-cons f i 0 k)
 
-  pub begins-step : i < length text → i < length f → getD f i 0 ≡ getD text i 0 →
+  pub begins-next : i < length text → i < length f → getD f i 0 ≡ getD text i 0 →
       beginsWith (drop i text) (drop i f) ≡ beginsWith (drop (i + 1) text) (drop (i + 1) f)
-  begins-step h k e = begins-at h k ∙ rw (eq-eqb _ _ e)
+  begins-next h k e = begins-at h k ∙ rw (eq-eqb _ _ e)
 
-  pub begins-other : i < length text → i < length f → (getD f i 0 ≡ getD text i 0 → ⊥) → beginsWith (drop i text) (drop i f) ≡ false
-  begins-other h k n = begins-at h k ∙ rw (ne-eqb _ _ n)
+  pub begins-fails : i < length text → i < length f → (getD f i 0 ≡ getD text i 0 → ⊥) → beginsWith (drop i text) (drop i f) ≡ false
+  begins-fails h k n = begins-at h k ∙ rw (ne-eqb _ _ n)
 
-  pub begins-done : length text ≤ i → beginsWith (drop i text) (drop i f) ≡ true
+  pub begins-end : length text ≤ i → beginsWith (drop i text) (drop i f) ≡ true
   unfolding beginsWith
-  begins-done h = rw (drop-of-length-le text h)
+  begins-end h = rw (drop-of-length-le text h)
 
 begins-split : (text f : List ℕ) → beginsWith text f ≡ true → f ≡ text ++ drop (length text) f
 unfolding beginsWith
@@ -102,7 +102,7 @@ module _ (f : List ℕ) (whole : isWholeFile f ≡ true) (some : 0 < length f) (
   line = line-here f 0 end next some (omega arith) refl
 
   first : firstLine f ≡ part 0 end f
-  first = ap (λ (ls : List (List ℕ)). getD ls 0 []) (lines-here f 0 end next line)
+  first = ap (λ (ls : List (List ℕ)). getD ls 0 []) (lines-here line)
 
   size : end ≡ 2
   size =
@@ -117,7 +117,7 @@ module _ (f : List ℕ) (whole : isWholeFile f ≡ true) (some : 0 < length f) (
       let a = part-length 0 end f (omega (arith, line)) in
       let z = size in
       let w = and-right (endsWhole f) (all isFrame (linesOf f)) whole in
-      let u = and-left (isFrame (part 0 end f)) (all isFrame (linesOf (drop next f))) (rw (lines-here f 0 end next line) at w) in
+      let u = and-left (isFrame (part 0 end f)) (all isFrame (linesOf (drop next f))) (rw (lines-here line) at w) in
       let d = and-right (ltb 0 (length (part 0 end f)) && eqb (length (part 0 end f) % 2) 0) (all isDigit (part 0 end f)) u in
       let g = all-getD isDigit (part 0 end f) 0 i d (omega arith) in
       rw (getD-take (end - 0) f i 0 (omega arith)) at g
@@ -131,7 +131,7 @@ module _ (f : List ℕ) (whole : isWholeFile f ≡ true) (some : 0 < length f) (
 
   more : end < next
   more =
-      let e = rw (ends-here f 0 end next line) at (and-left (endsWhole f) (all isFrame (linesOf f)) whole) in
+      let e = rw (ends-here line) at (and-left (endsWhole f) (all isFrame (linesOf f)) whole) in
       let m : 0 < next - end = ltb-true _ _ (and-left (ltb 0 (next - end)) (endsWhole (drop next f)) e) in
       omega arith
 
@@ -146,17 +146,17 @@ module _ (f : List ℕ) (whole : isWholeFile f ≡ true) (some : 0 < length f) (
   header-feed : getD f 2 0 ≡ 10 → beginsWith barrierLine f ≡ true
   header-feed e =
       let l : 2 < length f = omega (arith, size, more, line .high) in
-      begins-step barrierLine f 0 (omega arith) (omega arith) (kind .0) ∙
-      begins-step barrierLine f 1 (omega arith) (omega arith) (kind .1) ∙
-      begins-step barrierLine f 2 (omega arith) (omega arith) e ∙ begins-done barrierLine f 3 (omega arith)
+      begins-next barrierLine f 0 (omega arith) (omega arith) (kind .0) ∙
+      begins-next barrierLine f 1 (omega arith) (omega arith) (kind .1) ∙
+      begins-next barrierLine f 2 (omega arith) (omega arith) e ∙ begins-end barrierLine f 3 (omega arith)
 
   header-both : getD f 2 0 ≡ 13 → getD f 3 0 ≡ 10 → beginsWith barrierLineCrLf f ≡ true
   header-both e g =
       let l : 3 < length f = byte-inside f 3 (λ z. absurd (omega arith)) in
-      begins-step barrierLineCrLf f 0 (omega arith) (omega arith) (kind .0) ∙
-      begins-step barrierLineCrLf f 1 (omega arith) (omega arith) (kind .1) ∙
-      begins-step barrierLineCrLf f 2 (omega arith) (omega arith) e ∙
-      begins-step barrierLineCrLf f 3 (omega arith) (omega arith) g ∙ begins-done barrierLineCrLf f 4 (omega arith)
+      begins-next barrierLineCrLf f 0 (omega arith) (omega arith) (kind .0) ∙
+      begins-next barrierLineCrLf f 1 (omega arith) (omega arith) (kind .1) ∙
+      begins-next barrierLineCrLf f 2 (omega arith) (omega arith) e ∙
+      begins-next barrierLineCrLf f 3 (omega arith) (omega arith) g ∙ begins-end barrierLineCrLf f 4 (omega arith)
 
   header-begins : beginsBarrier f ≡ true
   header-begins =

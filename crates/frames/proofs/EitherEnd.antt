@@ -18,7 +18,7 @@ use Rattle.counting.specs.Tests.{pick, all, among}
 use Rattle.counting.proofs.Booleans.{and-two, and-three, or-right, or-false-left, or-false-right, by-test, true-false}
 use Rattle.counting.proofs.Membership.{all-each, each-all, all-append}
 use Rattle.frames.specs.Frames.{isIn, isDigit, isCrLf, withByte, linesOf, endsWhole, isFrame, isWholeFile, digitByte, hexBytes, frame2, frame4, frame6, frame8, frameOf4}
-use Rattle.frames.specs.EitherEnd.{returnsFrom, LinesKept, Ended, ended, endBytes, textOf, bytesOf, isInner, LinesRead, WholeIs, feedLines, FeedsAsBefore, isPlainText, WritesDigits}
+use Rattle.frames.specs.EitherEnd.{returnsFrom, LinesKept, EndedLine, ended, endBytes, textOf, bytesOf, isInner, LinesRead, WholeIs, feedLines, FeedsAsBefore, isPlainText, WritesDigits}
 use Rattle.frames.proofs.LineEnds.{digit-other, by-front, ends-more, feed-ends}
 
 -- CARRIAGE RETURNS PUT IN
@@ -94,30 +94,30 @@ lines-read [] h = (refl, refl)
 lines-read (l ∷ ls) h =
     let r = and-two (all isInner (l .bytes)) (all (all isInner) (bytesOf ls)) h in
     let ih = lines-read ls (r .1) in (
-      line-read (l .bytes) (l .crLf) (textOf ls) (r .0) ∙ ap (λ (ms : List (List ℕ)). l .bytes ∷ ms) (ih .0),
-      line-ended (l .bytes) (l .crLf) (textOf ls) ∙ ih .1,
+      line-read (l .bytes) (l .cr-lf) (textOf ls) (r .0) ∙ ap (λ (ms : List (List ℕ)). l .bytes ∷ ms) (ih .0),
+      line-ended (l .bytes) (l .cr-lf) (textOf ls) ∙ ih .1,
     )
 
 -- THE LINES OF A FILE, each with the end it has; a last line without one gets a line feed
-withFront : ℕ → List Ended → List Ended
+withFront : ℕ → List EndedLine → List EndedLine
 withFront c [] = ended (c ∷ []) false ∷ []
-withFront c (l ∷ ls) = ended (c ∷ l .bytes) (l .crLf) ∷ ls
+withFront c (l ∷ ls) = ended (c ∷ l .bytes) (l .cr-lf) ∷ ls
 
-withCrLf : List Ended → List Ended
+withCrLf : List EndedLine → List EndedLine
 withCrLf [] = []
 withCrLf (l ∷ ls) = ended (l .bytes) true ∷ ls
 
-endedLines : List ℕ → List Ended
+endedLines : List ℕ → List EndedLine
 endedLines [] = []
 endedLines (c ∷ cs) =
     pick (isCrLf c cs) (withCrLf (endedLines cs)) (pick (eqb c 10) (ended [] false ∷ endedLines cs) (withFront c (endedLines cs)))
 
-crlf-bytes : (ls : List Ended) → bytesOf (withCrLf ls) ≡ bytesOf ls
+crlf-bytes : (ls : List EndedLine) → bytesOf (withCrLf ls) ≡ bytesOf ls
 unfolding bytesOf withCrLf
 crlf-bytes [] = refl
 crlf-bytes (l ∷ ls) = refl
 
-front-bytes : (c : ℕ) (ls : List Ended) → bytesOf (withFront c ls) ≡ withByte c (bytesOf ls)
+front-bytes : (c : ℕ) (ls : List EndedLine) → bytesOf (withFront c ls) ≡ withByte c (bytesOf ls)
 unfolding bytesOf withFront
 front-bytes c [] = refl
 front-bytes c (l ∷ ls) = refl
@@ -135,7 +135,7 @@ unfolding textOf withCrLf endedLines
 crlf-text [] e h = true-false e refl
 crlf-text (d ∷ ds) e h = let x : d ≡ 10 = eqb-true d 10 e in rw x (ap (λ (f : List ℕ). 13 ∷ f) (rw x at h))
 
-front-text : (c d : ℕ) (ds : List ℕ) (ls : List Ended) → textOf ls ≡ d ∷ ds → textOf (withFront c ls) ≡ c ∷ d ∷ ds
+front-text : (c d : ℕ) (ds : List ℕ) (ls : List EndedLine) → textOf ls ≡ d ∷ ds → textOf (withFront c ls) ≡ c ∷ d ∷ ds
 unfolding textOf withFront
 front-text c d ds [] h = let z : _≡_ {A = ℕ} 0 1 = cc in absurd (omega arith)
 front-text c d ds (l ∷ ls) h = ap (λ (f : List ℕ). c ∷ f) h
@@ -162,12 +162,12 @@ frame-inner l h = digits-inner l (and-three (ltb 0 (length l)) (eqb (length l % 
 pub whole-is : WholeIs
 whole-is f = (there, back)
   where
-    there : isWholeFile f ≡ true → (ls : List Ended) × ((f ≡ textOf ls) × (all isFrame (bytesOf ls) ≡ true))
+    there : isWholeFile f ≡ true → (ls : List EndedLine) × ((f ≡ textOf ls) × (all isFrame (bytesOf ls) ≡ true))
     there h =
         let r = and-two (endsWhole f) (all isFrame (linesOf f)) h in
         (endedLines f, (sym (ended-text f (r .0)), ap (all isFrame) (ended-bytes f) ∙ r .1))
 
-    back : (ls : List Ended) × ((f ≡ textOf ls) × (all isFrame (bytesOf ls) ≡ true)) → isWholeFile f ≡ true
+    back : (ls : List EndedLine) × ((f ≡ textOf ls) × (all isFrame (bytesOf ls) ≡ true)) → isWholeFile f ≡ true
     back m =
         let inner = each-all (all isInner) (bytesOf (m .0)) (λ l i. frame-inner l (all-each isFrame (bytesOf (m .0)) (m .1 .1) l i)) in
         let r = lines-read (m .0) inner in

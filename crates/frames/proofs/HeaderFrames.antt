@@ -26,7 +26,7 @@ use Rattle.frames.proofs.BodyFrames.{frame-size}
 -- THE FIRST LINE
 module _ (f : List ℕ) (end next : ℕ) (l : LineAt f 0 end next) where
   lines-both : linesOf f ≡ part 0 end f ∷ linesOf (drop next f)
-  lines-both = lines-here f 0 end next l
+  lines-both = lines-here l
 
   pub rest-lines : restLines f ≡ linesOf (drop next f)
   rest-lines = rw lines-both

@@ -168,7 +168,7 @@ module _ (f : List ℕ) (i : ℕ) where
   unfolding controlAt
   control-over h = rw (drop-of-length-le f h) (omega arith)
 
-module _ (f : List ℕ) (at i : ℕ) (s : SameLine f at i) where
+module _ {f : List ℕ} {at i : ℕ} (s : SameLine f at i) where
   pub same-control : SameLine f at (i + controlAt (drop i f))
   same-control =
       let a = control-fits (drop i f) in
@@ -183,8 +183,8 @@ module _ (f : List ℕ) (at i : ℕ) (s : SameLine f at i) where
       let b = length-byte-at f i h e in
       record { low = omega arith; high = omega arith; same = omega arith }
 
-  pub same-ended : (n : ℕ) → at < length f → n ≡ lineEnd (drop i f) → 0 < n → LineAt f at i (i + n)
-  same-ended n h e g = let z = length-end-at f i (omega arith) in line-here f at i (i + n) h (omega arith) (omega arith)
+  pub same-ended : {n : ℕ} → at < length f → n ≡ lineEnd (drop i f) → 0 < n → LineAt f at i (i + n)
+  same-ended {n} h e g = let z = length-end-at f i (omega arith) in line-here f at i (i + n) h (omega arith) (omega arith)
 
   pub same-over : at < length f → length f ≤ i → LineAt f at i i
   same-over h g =
@@ -192,7 +192,7 @@ module _ (f : List ℕ) (at i : ℕ) (s : SameLine f at i) where
       let y = end-none f i g in
       line-here f at i i h (omega arith) (omega arith)
 
-module _ (f : List ℕ) (at end next : ℕ) (h : LineAt f at end next) where
+module _ {f : List ℕ} {at end next : ℕ} (h : LineAt f at end next) where
   at-end : atEnd (drop at f) ≡ drop end f
   at-end = drop-drop (lineLength (drop at f)) at f ∙ ap (λ (i : ℕ). drop i f) (sym (h .ends))
 

@@ -90,7 +90,7 @@ pairs-append k [] ms = refl
 pairs-append k (l ∷ ls) ms =
     by-test (hasKind k l) (λ e. rw e (ap (λ (ps : List Pair). pairIn l ∷ ps) (pairs-append k ls ms))) (λ e. rw e (pairs-append k ls ms))
 
-pairs-other : (k m : ℕ) (ls : List (List ℕ)) → all (hasKind m) ls ≡ true → m ≢ k → pairsIn k ls ≡ []
+pub pairs-other : (k m : ℕ) (ls : List (List ℕ)) → all (hasKind m) ls ≡ true → m ≢ k → pairsIn k ls ≡ []
 unfolding all pairsIn
 pairs-other k m [] h n = refl
 pairs-other k m (l ∷ ls) h n =

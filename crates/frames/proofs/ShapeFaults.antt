@@ -128,20 +128,20 @@ module _ (k : Form) (a b : ℕ) (q : k .bodies ≡ bodiesOf a b) (f : List ℕ) 
       record {
         short = past-short k f h;
         header = line-is;
-        headerDigits = all-getD isDigits (linesOf f) [] 0 digits (omega (arith, some));
+        header-digits = all-getD isDigits (linesOf f) [] 0 digits (omega (arith, some));
         rest = rest-lines f (2 + k .headerSize) next line-is;
         some = some;
         counts = count-is;
-        firstCounts = first-counts;
+        first-counts = first-counts;
         few = omega (arith, count-is, agrees);
-        firstFew = omega (arith, count-is, firsts-are);
-        firstRun = rw e (runs .0);
-        lastRun = rw g (runs .1);
-        endFrame = six .1;
-        plainBody =
+        first-few = omega (arith, count-is, firsts-are);
+        first-run = rw e (runs .0);
+        last-run = rw g (runs .1);
+        end-frame = six .1;
+        plain-body =
             plain-runs a b (k .bodySize) firsts (bodyLines f) (runs .0) (runs .1)
             (all-take isDigits (length (restLines f) - 1) (restLines f) (all-drop isDigits 1 (linesOf f) digits));
-        plainEnd = plain-frame (k .end) 4 (lastLine f) (six .1) end-digits;
+        plain-end = plain-frame (k .end) 4 (lastLine f) (six .1) end-digits;
       }
 
 pub read-shaped : {k : Form} {f : List ℕ} {n next m count firsts : ℕ} (a b : ℕ) → k .bodies ≡ bodiesOf a b → HeaderAnswer k f n next → n ≡ 0 →

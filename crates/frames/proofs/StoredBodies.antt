@@ -11,11 +11,11 @@ use mathlib.Core.Path.{_≡_, ap, sym, _∙_}
 use mathlib.Core.Logic.{_≢_}
 use mathlib.Core.Bool.{true, false}
 use mathlib.Core.List.{List, [], _∷_, _++_}
-use Prim.Native.Nat.{ℕ, _+_, _*_, _-_, _≤_}
+use Prim.Native.Nat.{ℕ, suc, _+_, _*_, _-_, _≤_}
 use native.Mathlib.Omega.{arith}
 use lib.Dec.{eqb, leb}
 use lib.ListN.{length, take, drop, length-append, length-drop, take-append-drop}
-use lib.Seq.{length-take-le}
+use lib.Seq.{take-suc, take-length, length-take-le}
 use borrow.Author.Tests.{eqb-true, le-leb}
 use Rattle.counting.specs.Tests.{all}
 use Rattle.counting.specs.Pairs.{Pair}
@@ -24,8 +24,7 @@ use Rattle.counting.proofs.Membership.{all-each, each-all, all-append}
 use Rattle.frames.specs.Frames.{linesOf, isDigit, Form, lastLine, bodyLines, restLines, pairsIn, numbersIn}
 use Rattle.frames.specs.Lines.{isPlain}
 use Rattle.frames.specs.Shape.{firstKind, lastKind, Shaped}
-use Rattle.frames.specs.Stores.{hasKind, runOf, pastRun, runAt, isLong, Storable, Passed}
-use Rattle.frames.proofs.BodyFrames.{split-last}
+use Rattle.frames.specs.Stores.{hasKind, runOf, pastRun, runAt, isLong, Storable, RunPassed}
 use Rattle.frames.proofs.LineCounts.{long-few}
 use Rattle.frames.proofs.Runs.{other-kind, frames-kind, run-only, run-first, run-second, run-pairs, pairs-first, pairs-second}
 
@@ -36,7 +35,10 @@ plain-long n m l h p =
 
 module _ {form : Form} {f : List ℕ} {next count firsts : ℕ} (s : Shaped form f next count firsts) where
   lines-split : linesOf (drop next f) ≡ bodyLines f ++ lastLine f ∷ []
-  lines-split = sym (s .rest) ∙ split-last (restLines f) (s .some)
+  lines-split =
+      let ls = restLines f in
+      let n : length ls ≡ suc (length ls - 1) = omega (arith, s .some) in
+      sym (s .rest) ∙ sym (take-length ls) ∙ ap (λ (i : ℕ). take i ls) n ∙ take-suc ls (length ls - 1) [] (omega arith)
 
   body-split : take firsts (bodyLines f) ++ drop firsts (bodyLines f) ≡ bodyLines f
   body-split = take-append-drop firsts (bodyLines f)
@@ -45,21 +47,21 @@ module _ {form : Form} {f : List ℕ} {next count firsts : ℕ} (s : Shaped form
   lines-after = lines-split ∙ ap (λ (ls : List (List ℕ)). ls ++ lastLine f ∷ []) (sym body-split)
 
   firsts-of : (k : ℕ) → firstKind form ≡ k → all (hasKind k) (take firsts (bodyLines f)) ≡ true
-  firsts-of k e = rw (← e) (frames-kind (firstKind form) (form .bodySize) (take firsts (bodyLines f)) (s .firstRun))
+  firsts-of k e = rw (← e) (frames-kind (firstKind form) (form .bodySize) (take firsts (bodyLines f)) (s .first-run))
 
   lasts-of : (k : ℕ) → lastKind form ≡ k → all (hasKind k) (drop firsts (bodyLines f)) ≡ true
-  lasts-of k e = rw (← e) (frames-kind (lastKind form) (form .bodySize) (drop firsts (bodyLines f)) (s .lastRun))
+  lasts-of k e = rw (← e) (frames-kind (lastKind form) (form .bodySize) (drop firsts (bodyLines f)) (s .last-run))
 
   end-not : (k : ℕ) → form .end ≢ k → hasKind k (lastLine f) ≡ false
-  end-not k n = other-kind k (form .end) (lastLine f) (and-left (hasKind (form .end) (lastLine f)) _ (s .endFrame)) n
+  end-not k n = other-kind k (form .end) (lastLine f) (and-left (hasKind (form .end) (lastLine f)) _ (s .end-frame)) n
 
   pub body-storable : 4 ≤ form .bodySize → Storable f next
   unfolding all
   body-storable h =
       let each =
       each-all (isLong 6) (bodyLines f)
-      (λ l i. plain-long 6 (2 + form .bodySize) l (omega arith) (all-each (isPlain (2 + form .bodySize)) (bodyLines f) (s .plainBody) l i)) in
-      let last : isLong 6 (lastLine f) ≡ true = plain-long 6 6 (lastLine f) (omega arith) (s .plainEnd) in
+      (λ l i. plain-long 6 (2 + form .bodySize) l (omega arith) (all-each (isPlain (2 + form .bodySize)) (bodyLines f) (s .plain-body) l i)) in
+      let last : isLong 6 (lastLine f) ≡ true = plain-long 6 6 (lastLine f) (omega arith) (s .plain-end) in
       record { inside = s .header .high; long = rw lines-split (all-append (isLong 6) (bodyLines f) (lastLine f ∷ []) each (rw last)) }
 
   pub body-few : 4 ≤ form .bodySize → 7 * (count + 1) ≤ length f + 1
@@ -97,7 +99,7 @@ module _ {form : Form} {f : List ℕ} {next count firsts : ℕ} (s : Shaped form
 
     pub first-size : length (runAt k f next) ≡ firsts
     first-size =
-        ap length first-run ∙ length-take-le firsts (bodyLines f) (omega (arith, s .counts, s .firstFew))
+        ap length first-run ∙ length-take-le firsts (bodyLines f) (omega (arith, s .counts, s .first-few))
 
     pub first-pairs : pairsIn k (runAt k f next) ≡ pairsIn k (bodyLines f)
     first-pairs =
@@ -105,7 +107,7 @@ module _ {form : Form} {f : List ℕ} {next count firsts : ℕ} (s : Shaped form
         pairs-first k m apart (take firsts (bodyLines f)) (drop firsts (bodyLines f)) (firsts-of k first) (lasts-of m last) ∙
         ap (pairsIn k) body-split
 
-    module _ {n turn : ℕ} (p : Passed k f next n turn) where
+    module _ {n turn : ℕ} (p : RunPassed k f next n turn) where
       pub second-run : runAt m f turn ≡ drop firsts (bodyLines f)
       second-run =
           ap (runOf m) (p .rest ∙ ap (pastRun k) lines-after) ∙

@@ -1,12 +1,13 @@
 -- Runs of body frames, stored line by line.
 --   column from size lines           one number of each line
 --   Passing kind g at i n            of the run that begins at `at`, n lines are passed, and i is the place reached
---   Filling from size .. slice       with what is left of the run stored behind them, the slice is as the whole run stored would leave it
+--   Filling from size .. slice       so many of one number of each line are stored at the slice's front
 --   Stopped kind g i                 no line of the kind stands at i
 --   LineNumbers g i end              the line at i is long enough for a body frame, and how large its numbers are
 --   line-numbers                     a line that is passed is
 --   passing-room                     an element is left for a line of the run
---   passing-on, filling-on           past a line of the kind
+--   passing-start                    no line is passed
+--   passing-next, filling-next       past a line of the kind
 --   stopped-other, stopped-over      a line of another kind, or no line, stops the run
 --   numbers-length                   as many numbers as lines
 --   stored-pairs, stored-numbers     what is stored then
@@ -18,18 +19,18 @@ use mathlib.Core.Bool.{true, false}
 use mathlib.Core.List.{List, [], _∷_, map}
 use Prim.Native.Nat.{ℕ, _+_, _≤_, _<_}
 use native.Mathlib.Nat.{add-zero}
-use native.Mathlib.Numerals.{add-one}
 use native.Mathlib.Omega.{arith}
-use lib.Dec.{leb}
-use lib.ListN.{length, drop, set, length-map, length-set, drop-of-length-le}
+use lib.ListN.{length, drop, set, length-map, drop-of-length-le}
 use lib.Seq.{sets}
 use borrow.Author.Tests.{eq-eqb, ne-eqb, leb-true}
 use Rattle.counting.specs.Tests.{all}
 use Rattle.counting.specs.Pairs.{Pair, firstsOf, secondsOf}
-use Rattle.counting.proofs.Booleans.{and-left, and-right, by-test}
+use Rattle.counting.specs.Loops.{Storing}
+use Rattle.counting.proofs.Booleans.{and-two, by-test}
+use Rattle.counting.proofs.Loops.{storing-next, storing-end}
 use Rattle.frames.specs.Frames.{linesOf, isDigit, hexAt, kindOf, pairsIn, numbersIn}
 use Rattle.frames.specs.Lines.{part, lineAfter, pastLines, LineAt}
-use Rattle.frames.specs.Stores.{hasKind, runOf, pastRun, runAt, isLong, Storable, Passed, PairsStored, StoredPairs, StoredNumbers}
+use Rattle.frames.specs.Stores.{hasKind, runOf, pastRun, runAt, isLong, Storable, RunPassed, PairsStored, StoredPairs, StoredNumbers}
 use Rattle.frames.proofs.LinePlaces.{lines-here, line-after, part-length}
 use Rattle.frames.proofs.HexNumbers.{hex-part, hex-small-part}
 use Rattle.frames.proofs.Runs.{run-kept, past-kept, run-none, past-none, run-nil, past-nil, past-each, run-pairs}
@@ -44,9 +45,8 @@ pub record Passing (kind : ℕ) (g : List ℕ) (at i n : ℕ) : Type 0 where
   pub rest : pastRun kind (linesOf (drop i g)) ≡ pastRun kind (linesOf (drop at g))
   pub low : at ≤ i
 
-pub record Filling (from size kind : ℕ) (g : List ℕ) (at i n : ℕ) (before slice : List ℕ) : Type 0 where
-  pub filled : sets slice n (column from size (runAt kind g i)) ≡ sets before 0 (column from size (runAt kind g at))
-  pub same : length slice ≡ length before
+abbrev pub Filling : (from size kind : ℕ) → (g : List ℕ) → (at i n : ℕ) → (before slice : List ℕ) → Type 0
+Filling from size kind g at i n before slice = Storing before 0 (column from size (runAt kind g at)) slice n (column from size (runAt kind g i))
 
 abbrev pub Stopped : (kind : ℕ) → (g : List ℕ) → (i : ℕ) → Type 0
 Stopped kind g i = (runAt kind g i ≡ []) × (pastRun kind (linesOf (drop i g)) ≡ linesOf (drop i g))
@@ -57,26 +57,25 @@ pub record LineNumbers (g : List ℕ) (i end : ℕ) : Type 0 where
   pub second : hexAt (i + 4) 2 g < 256
   pub number : hexAt (i + 2) 4 g < 65536
 
+pub passing-start : (kind : ℕ) {g : List ℕ} {at : ℕ} → Storable g at → Passing kind g at at 0
+passing-start kind s = record { left = s; counts = omega arith; place = refl; rest = refl; low = omega arith }
+
 -- A LINE of the run, or one that stops it
 module _ {kind : ℕ} {g : List ℕ} {at i end next n : ℕ} (h : LineAt g i end next) (p : Passing kind g at i n) where
-  here : isLong 6 (part i end g) ≡ true
+  both-long : (isLong 6 (part i end g) ≡ true) × (all (isLong 6) (linesOf (drop next g)) ≡ true)
   unfolding all
-  here = and-left (isLong 6 (part i end g)) (all (isLong 6) (linesOf (drop next g))) (rw (lines-here g i end next h) at (p .left .long))
+  both-long = and-two _ _ (rw (lines-here h) at (p .left .long))
 
-  beyond : all (isLong 6) (linesOf (drop next g)) ≡ true
-  unfolding all
-  beyond = and-right (isLong 6 (part i end g)) (all (isLong 6) (linesOf (drop next g))) (rw (lines-here g i end next h) at (p .left .long))
+  long-digits : (6 ≤ length (part i end g)) × (all isDigit (part i end g) ≡ true)
+  long-digits = let r = and-two _ _ (both-long .0) in (leb-true _ _ (r .0), r .1)
 
   line-long : i + 6 ≤ end
-  line-long =
-      let e = part-length i end g (omega arith) in
-      let l : 6 ≤ length (part i end g) = leb-true _ _ (and-left (leb 6 (length (part i end g))) (all isDigit (part i end g)) here) in
-      omega arith
+  line-long = omega (arith, part-length i end g (omega arith), long-digits .0)
 
   pub line-numbers : LineNumbers g i end
   line-numbers =
       let l = line-long in
-      let d = and-right (leb 6 (length (part i end g))) (all isDigit (part i end g)) here in
+      let d = long-digits .1 in
       record {
         long = l;
         first = hex-small-part 2 2 i end g (omega arith) d;
@@ -90,44 +89,39 @@ module _ {kind : ℕ} {g : List ℕ} {at i end next n : ℕ} (h : LineAt g i end
   pub stopped-other : hexAt i 2 g ≢ kind → Stopped kind g i
   stopped-other d =
       let z : hasKind kind (part i end g) ≡ false = rw line-kind (ne-eqb _ _ d) in
-      rw (lines-here g i end next h) (run-none kind (part i end g) (linesOf (drop next g)) z, past-none kind (part i end g) (linesOf (drop next g)) z)
+      rw (lines-here h) (run-none kind (part i end g) (linesOf (drop next g)) z, past-none kind (part i end g) (linesOf (drop next g)) z)
 
   module _ (e : hexAt i 2 g ≡ kind) where
     of-kind : hasKind kind (part i end g) ≡ true
     of-kind = rw line-kind (eq-eqb _ _ e)
 
     run-here : runAt kind g i ≡ part i end g ∷ runAt kind g next
-    run-here = ap (runOf kind) (lines-here g i end next h) ∙ run-kept kind (part i end g) (linesOf (drop next g)) of-kind
+    run-here = ap (runOf kind) (lines-here h) ∙ run-kept kind (part i end g) (linesOf (drop next g)) of-kind
 
     pub passing-room : n < length (runAt kind g at)
     passing-room = omega (arith, p .counts, ap length run-here)
 
-    place-on : pastLines (length (runAt kind g next)) g (lineAfter g i) ≡ pastLines (length (runAt kind g i)) g i
+    place-next : pastLines (length (runAt kind g next)) g (lineAfter g i) ≡ pastLines (length (runAt kind g i)) g i
     unfolding pastLines
-    place-on = sym (ap (λ (ls : List (List ℕ)). pastLines (length ls) g i) run-here)
+    place-next = sym (ap (λ (ls : List (List ℕ)). pastLines (length ls) g i) run-here)
 
-    pub passing-on : Passing kind g at next (n + 1)
-    passing-on =
+    pub passing-next : Passing kind g at next (n + 1)
+    passing-next =
         record {
-          left = record { inside = h .high; long = beyond };
+          left = record { inside = h .high; long = both-long .1 };
           counts = omega (arith, p .counts, ap length run-here);
-          place = ap (pastLines (length (runAt kind g next)) g) (line-after h) ∙ place-on ∙ p .place;
+          place = ap (pastLines (length (runAt kind g next)) g) (line-after h) ∙ place-next ∙ p .place;
           rest =
-              sym (past-kept kind (part i end g) (linesOf (drop next g)) of-kind) ∙
-              ap (pastRun kind) (sym (lines-here g i end next h)) ∙ p .rest;
+              sym (past-kept kind (part i end g) (linesOf (drop next g)) of-kind) ∙ ap (pastRun kind) (sym (lines-here h)) ∙
+              p .rest;
           low = omega (arith, h, p);
         }
 
-    pub filling-on : {from size : ℕ} {before slice : List ℕ} → from + size ≤ 6 → Filling from size kind g at i n before slice →
+    pub filling-next : (from size : ℕ) {before slice : List ℕ} → from + size ≤ 6 → Filling from size kind g at i n before slice →
         Filling from size kind g at next (n + 1) before (set slice n (hexAt (i + from) size g))
-    filling-on {from} {size} {before} {slice} o s =
+    filling-next from size o s =
         let l = line-long in
-        record {
-          filled =
-              rw (add-one, ← hex-part from size i end g (omega arith))
-              (ap (λ (ls : List (List ℕ)). sets slice n (column from size ls)) (sym run-here) ∙ s .filled);
-          same = length-set slice n (hexAt (i + from) size g) ∙ s .same;
-        }
+        storing-next s (hexAt (i + from) size g ∷ []) (ap (column from size) run-here ∙ rw (hex-part from size i end g (omega arith))) refl refl
 
 pub stopped-over : (kind : ℕ) (g : List ℕ) (i : ℕ) → length g ≤ i → Stopped kind g i
 unfolding linesOf
@@ -156,7 +150,7 @@ module _ {kind : ℕ} {g : List ℕ} {at i n : ℕ} (p : Passing kind g at i n) 
   all-counted : n ≡ length (runAt kind g at)
   all-counted = omega (arith, p .counts, ap length (stop .0))
 
-  all-passed : Passed kind g at n i
+  all-passed : RunPassed kind g at n i
   unfolding pastLines
   all-passed =
       record {
@@ -167,8 +161,8 @@ module _ {kind : ℕ} {g : List ℕ} {at i n : ℕ} (p : Passing kind g at i n) 
         high = p .left .inside;
       }
 
-  all-filled : {from size : ℕ} {before slice : List ℕ} → Filling from size kind g at i n before slice → slice ≡ sets before 0 (column from size (runAt kind g at))
-  all-filled s = rw (stop .0) at (s .filled)
+  all-filled : (from size : ℕ) {before slice : List ℕ} → Filling from size kind g at i n before slice → slice ≡ sets before 0 (column from size (runAt kind g at))
+  all-filled from size s = storing-end s (ap (column from size) (stop .0)) .0
 
   pub stored-pairs : {firsts seconds a b : List ℕ} → Filling 2 2 kind g at i n firsts a → Filling 4 2 kind g at i n seconds b →
       length (runAt kind g at) ≤ length firsts → length (runAt kind g at) ≤ length seconds → StoredPairs kind g at firsts seconds a b n i
@@ -180,8 +174,8 @@ module _ {kind : ℕ} {g : List ℕ} {at i n : ℕ} (p : Passing kind g at i n) 
             record {
               first-room = rw l u;
               second-room = rw l v;
-              firsts-are = rw (column-firsts kind (linesOf (drop at g))) (all-filled s);
-              seconds-are = rw (column-seconds kind (linesOf (drop at g))) (all-filled t);
+              firsts-are = rw (column-firsts kind (linesOf (drop at g))) (all-filled 2 2 s);
+              seconds-are = rw (column-seconds kind (linesOf (drop at g))) (all-filled 4 2 t);
             };
       }
 
@@ -191,7 +185,7 @@ module _ {kind : ℕ} {g : List ℕ} {at i n : ℕ} (p : Passing kind g at i n) 
       let e = column-numbers (runAt kind g at) in
       record {
         passed = all-passed;
-        numbers = record { room = rw (numbers-length (runAt kind g at)) u; numbers-are = rw e (all-filled s) };
+        numbers = record { room = rw (numbers-length (runAt kind g at)) u; numbers-are = rw e (all-filled 2 4 s) };
       }
 
 pub stored-as : {kind : ℕ} {g : List ℕ} {at : ℕ} {us vs us' vs' : List ℕ} {n turn : ℕ} (xs : List Pair) →
@@ -201,6 +195,6 @@ stored-as {kind} {g} {at} {us} {vs} {us'} {vs'} xs s e = (
   subst (λ (ys : List Pair). PairsStored ys us vs us' vs') e (s .pairs),
 )
 
-pub storable-next : {kind : ℕ} {g : List ℕ} {at count next : ℕ} → Storable g at → Passed kind g at count next → Storable g next
+pub storable-next : {kind : ℕ} {g : List ℕ} {at count next : ℕ} → Storable g at → RunPassed kind g at count next → Storable g next
 storable-next {kind} {g} {at} s p =
     record { inside = p .high; long = rw (p .rest) (past-each (isLong 6) kind (linesOf (drop at g)) (s .long)) }

@@ -4,7 +4,7 @@
 --   digit-inside                             a digit stands within the file
 --   whole-next                               what is left past a line that is whole
 --   fails-other, fails-empty, fails-odd      a line that is not: another byte or no line end, nothing, an odd number of digits
---   whole-over, whole-failed                 the answers, at the file's end and at a line that is not whole
+--   whole-end, whole-fails                 the answers, at the file's end and at a line that is not whole
 use mathlib.Core.Path.{_≡_, refl, sym, _∙_}
 use mathlib.Core.Bool.{Bool, true, false, _&&_, and-false}
 use mathlib.Core.List.{List, [], _∷_}
@@ -34,13 +34,13 @@ digits-start f at h = let z : at - at ≡ 0 = omega arith in record { line = sam
 pub digit-inside : (f : List ℕ) (i : ℕ) → isDigit (getD f i 0) ≡ true → i < length f
 digit-inside f i d = byte-inside f i (λ z. true-false d (rw z))
 
-pub digits-next : (f : List ℕ) (at i : ℕ) → DigitsUpTo f at i → isDigit (getD f i 0) ≡ true → DigitsUpTo f at (i + 1)
+pub digits-next : {f : List ℕ} {at i : ℕ} → DigitsUpTo f at i → isDigit (getD f i 0) ≡ true → DigitsUpTo f at (i + 1)
 unfolding all
-digits-next f at i s d =
+digits-next {f} {at} {i} s d =
     let h = digit-inside f i d in
     let e : lineEnd (drop i f) ≡ 0 = rw (drop-cons f i 0 h) (end-digit (getD f i 0) _ d) in
     record {
-      line = same-next f at i (s .line) h e;
+      line = same-next (s .line) h e;
       digits =
           rw (part-snoc at i f (s .line .low) h)
           (all-append isDigit (part at i f) (getD f i 0 ∷ []) (s .digits) (and-both (isDigit (getD f i 0)) true d refl));
@@ -58,14 +58,14 @@ regroup true false true false e g = refl
 regroup true false false d e g = refl
 regroup false b c d e g = refl
 
-module _ (f : List ℕ) (at end next : ℕ) (h : LineAt f at end next) where
+module _ {f : List ℕ} {at end next : ℕ} (h : LineAt f at end next) where
   whole-line :
       isWholeFile (drop at f) ≡
       (ltb 0 (next - end) && (ltb 0 (end - at) && (eqb ((end - at) % 2) 0 && (all isDigit (part at end f) && isWholeFile (drop next f)))))
   unfolding all
   whole-line =
       let n = part-length at end f (omega arith) in
-      rw (lines-here f at end next h, ends-here f at end next h, n)
+      rw (lines-here h, ends-here h, n)
       (regroup (ltb 0 (next - end)) (endsWhole (drop next f)) (ltb 0 (end - at)) (eqb ((end - at) % 2) 0) (all isDigit (part at end f))
       (all isFrame (linesOf (drop next f))))
 
@@ -92,21 +92,21 @@ module _ (f : List ℕ) (at end next : ℕ) (h : LineAt f at end next) where
       let g : getD (part at end f) (i - at) 0 ≡ getD f i 0 = getD-take (end - at) (drop at f) (i - at) 0 (omega arith) ∙ getD-drop at f (i - at) 0 ∙ rw m in
       true-false (rw g at t) d) (λ e. whole-line ∙ rw e (simp and-false))
 
-pub fails-other : (f : List ℕ) (at i : ℕ) → at < length f → SameLine f at i → isDigit (getD f i 0) ≡ false → lineEnd (drop i f) ≡ 0 →
+pub fails-other : {f : List ℕ} {at i : ℕ} → at < length f → SameLine f at i → isDigit (getD f i 0) ≡ false → lineEnd (drop i f) ≡ 0 →
     isWholeFile (drop at f) ≡ false
-fails-other f at i h s d e =
+fails-other {f} {at} {i} h s d e =
     by-test (ltb i (length f))
-    (λ t. fails-digit f at _ _ (line-here f at _ _ h refl refl) i (s .low) (inside (ltb-true _ _ t)) d)
-    (λ t. fails-unended f at i i (same-over f at i s h (ltb-false _ _ t)) refl)
+    (λ t. fails-digit (line-here f at _ _ h refl refl) i (s .low) (inside (ltb-true _ _ t)) d)
+    (λ t. fails-unended (same-over s h (ltb-false _ _ t)) refl)
   where
     inside : i < length f → i < at + lineLength (drop at f)
-    inside b = let r = same-next f at i s b e in omega (arith, s .same)
+    inside b = let r = same-next s b e in omega (arith, s .same)
 
 -- THE ANSWERS
-pub whole-over : (f : List ℕ) (at : ℕ) → at ≡ length f → isWholeFile f ≡ isWholeFile (drop at f) → eqb at (length f) ≡ isWholeFile f
+pub whole-end : (f : List ℕ) (at : ℕ) → at ≡ length f → isWholeFile f ≡ isWholeFile (drop at f) → eqb at (length f) ≡ isWholeFile f
 unfolding endsWhole all linesOf
-whole-over f at e h = eq-eqb _ _ e ∙ sym (h ∙ rw (e, drop-length f))
+whole-end f at e h = eq-eqb _ _ e ∙ sym (h ∙ rw (e, drop-length f))
 
-pub whole-failed : (f : List ℕ) (at : ℕ) → at < length f → isWholeFile f ≡ isWholeFile (drop at f) → isWholeFile (drop at f) ≡ false →
+pub whole-fails : (f : List ℕ) (at : ℕ) → at < length f → isWholeFile f ≡ isWholeFile (drop at f) → isWholeFile (drop at f) ≡ false →
     eqb at (length f) ≡ isWholeFile f
-whole-failed f at l h g = ne-eqb at (length f) (omega arith) ∙ sym (h ∙ g)
+whole-fails f at l h g = ne-eqb at (length f) (omega arith) ∙ sym (h ∙ g)

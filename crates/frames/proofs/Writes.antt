@@ -6,20 +6,22 @@
 --   two-value, four-value               what is read of a number that was written in two digits, and in four
 --   frame4-length, frame6-length, frameOf4-length    how many bytes a frame takes
 --   hex2-written, hex4-written          two digits as two stores; four as two writes
---   text-step, text-written             a text written byte by byte
+--   text-next, text-end                 a text written byte by byte: one more is, all are
 --   barrierLine-frame                   the fixed bytes of the first line of a barrier are its frame
 use mathlib.Core.Path.{_≡_, refl, _∙_}
-use mathlib.Core.List.{List, _++_}
+use mathlib.Core.List.{List, [], _∷_, _++_}
 use Prim.Native.Nat.{ℕ, zero, suc, _+_, _/_, _%_, _≤_, _<_}
 use native.Mathlib.Omega.{arith}
 use native.Mathlib.Numerals.{add-one}
 use native.Mathlib.Nat.{zero-add}
 use lib.Dec.{ltb}
-use lib.ListN.{length, getD, drop, set, length-append, drop-of-length-le}
-use lib.Seq.{drop-cons, sets, sets-eq}
+use lib.ListN.{length, getD, drop, set, length-append}
+use lib.Seq.{sets, sets-eq}
 use borrow.Author.Tests.{ltb-true, ltb-false, le-leb, lt-leb}
 use Rattle.formats.specs.Kinds.{barrierKind}
 use Rattle.counting.proofs.Booleans.{by-test}
+use Rattle.counting.specs.Loops.{Storing}
+use Rattle.counting.proofs.Loops.{next-in, storing-next, storing-end}
 use Rattle.counting.proofs.Stores.{sets-append}
 use Rattle.frames.specs.Frames.{digitOf, hexFrom, digitByte, hexBytes, frame2, frame4, frame6, frameOf4}
 use Rattle.frames.specs.Writes.{Written, barrierLine}
@@ -98,17 +100,14 @@ pub hex4-written : {l m n : List ℕ} {at mid next : ℕ} (v : ℕ) → Written 
     Written m mid 2 (hexBytes 2 v) n next → Written l at 4 (hexBytes 4 v) n next
 hex4-written v a b = rw (hexBytes-split v) at (written-then a b)
 
--- A TEXT, byte by byte: what is left of it, written from where it stands
-pub text-step : (l : List ℕ) (at i : ℕ) (text : List ℕ) → i < length text →
-    sets (set l (at + i) (getD text i 0)) (at + (i + 1)) (drop (i + 1) text) ≡ sets l (at + i) (drop i text)
-text-step l at i text h =
-    let e : at + (i + 1) ≡ suc (at + i) = omega arith in
-    rw (e, add-one, drop-cons text i 0 h)
+-- A TEXT, byte by byte or part by part
+pub text-next : {before text out : List ℕ} {at : ℕ} (i : ℕ) → i < length text → Storing before at text out (at + i) (drop i text) →
+    Storing before at text (set out (at + i) (getD text i 0)) (at + (i + 1)) (drop (i + 1) text)
+text-next {text = text} i h s = storing-next s (getD text i 0 ∷ []) (next-in text 0 i h .is) refl (omega arith)
 
-pub text-written : (l m : List ℕ) (at i : ℕ) (text : List ℕ) → i ≡ length text → sets m (at + i) (drop i text) ≡ sets l at text →
-    Written l at (length text) text m (at + i)
-text-written l m at i text h e =
-    record { bytes = rw (drop-of-length-le text {i = i} (omega arith)) at e; full = refl; place = omega arith }
+pub text-end : {before text out left : List ℕ} {at size next : ℕ} → Storing before at text out next left → left ≡ [] → length text ≡ size →
+    Written before at size text out next
+text-end s e l = record { bytes = storing-end s e .0; full = l; place = storing-end s e .1 ∙ rw l }
 
 pub barrierLine-frame : barrierLine ≡ frame2 barrierKind
 unfolding hexBytes

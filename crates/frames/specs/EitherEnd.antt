@@ -2,7 +2,7 @@
 --   returnsFrom before at chosen f    f, with carriage returns put in; `before` is the byte before it, `at` the place of its first byte
 --   withReturns chosen f              a carriage return put before any choice of the line feeds that have none right before them
 --   feedLines f                       the lines of document 03, each ended by a line feed alone
---   Ended, ended, endBytes            a line and which end it has; the bytes of an end
+--   EndedLine, ended, endBytes        a line and which end it has; the bytes of an end
 --   textOf ls, bytesOf ls             the file of such lines; the lines without their ends
 --   isInner c                         neither a carriage return nor a line feed
 --   LinesKept                         carriage returns put in change no line, nor whether the last one is ended, and never make a file shorter
@@ -37,21 +37,21 @@ LinesKept =
     (length f ≤ length (withReturns chosen f))
 
 -- LINES WITH A CHOICE OF END for each
-pub record Ended : Type 0 where
+pub record EndedLine : Type 0 where
   pub bytes : List ℕ
-  pub crLf : Bool
+  pub cr-lf : Bool
 
-abbrev pub ended : List ℕ → Bool → Ended
-ended l z = record { bytes = l; crLf = z }
+abbrev pub ended : List ℕ → Bool → EndedLine
+ended l z = record { bytes = l; cr-lf = z }
 
 abbrev pub endBytes : Bool → List ℕ
 endBytes z = pick z (13 ∷ 10 ∷ []) (10 ∷ [])
 
-unfoldable pub textOf : List Ended → List ℕ
+unfoldable pub textOf : List EndedLine → List ℕ
 textOf [] = []
-textOf (l ∷ ls) = l .bytes ++ (endBytes (l .crLf) ++ textOf ls)
+textOf (l ∷ ls) = l .bytes ++ (endBytes (l .cr-lf) ++ textOf ls)
 
-unfoldable pub bytesOf : List Ended → List (List ℕ)
+unfoldable pub bytesOf : List EndedLine → List (List ℕ)
 bytesOf [] = []
 bytesOf (l ∷ ls) = l .bytes ∷ bytesOf ls
 
@@ -59,10 +59,10 @@ abbrev pub isInner : ℕ → Bool
 isInner c = not (eqb c 10) && not (eqb c 13)
 
 abbrev pub LinesRead : Type 0
-LinesRead = (ls : List Ended) → all (all isInner) (bytesOf ls) ≡ true → (linesOf (textOf ls) ≡ bytesOf ls) × (endsWhole (textOf ls) ≡ true)
+LinesRead = (ls : List EndedLine) → all (all isInner) (bytesOf ls) ≡ true → (linesOf (textOf ls) ≡ bytesOf ls) × (endsWhole (textOf ls) ≡ true)
 
 abbrev pub WholeIs : Type 0
-WholeIs = (f : List ℕ) → (isWholeFile f ≡ true) ↔ ((ls : List Ended) × ((f ≡ textOf ls) × (all isFrame (bytesOf ls) ≡ true)))
+WholeIs = (f : List ℕ) → (isWholeFile f ≡ true) ↔ ((ls : List EndedLine) × ((f ≡ textOf ls) × (all isFrame (bytesOf ls) ≡ true)))
 
 -- THE LINES OF DOCUMENT 03
 unfoldable pub feedLines : List ℕ → List (List ℕ)

@@ -88,18 +88,18 @@ pub record BodyAnswer (k : Form) (g : List ℕ) (number count firsts : ℕ) : Ty
 pub record Shaped (k : Form) (f : List ℕ) (next count firsts : ℕ) : Type 0 where
   pub short : length f ≤ fileMost
   pub header : LineAt f 0 (2 + k .headerSize) next
-  pub headerDigits : all isDigit (firstLine f) ≡ true
+  pub header-digits : all isDigit (firstLine f) ≡ true
   pub rest : restLines f ≡ linesOf (drop next f)
   pub some : 0 < length (restLines f)
   pub counts : count ≡ length (bodyLines f)
-  pub firstCounts : firsts ≡ length (pairsIn (firstKind k) (bodyLines f))
+  pub first-counts : firsts ≡ length (pairsIn (firstKind k) (bodyLines f))
   pub few : count < 65536
-  pub firstFew : firsts ≤ count
-  pub firstRun : all (isFrameOf (firstKind k) (k .bodySize)) (take firsts (bodyLines f)) ≡ true
-  pub lastRun : all (isFrameOf (lastKind k) (k .bodySize)) (drop firsts (bodyLines f)) ≡ true
-  pub endFrame : isFrameOf (k .end) 4 (lastLine f) ≡ true
-  pub plainBody : all (isPlain (2 + k .bodySize)) (bodyLines f) ≡ true
-  pub plainEnd : isPlain 6 (lastLine f) ≡ true
+  pub first-few : firsts ≤ count
+  pub first-run : all (isFrameOf (firstKind k) (k .bodySize)) (take firsts (bodyLines f)) ≡ true
+  pub last-run : all (isFrameOf (lastKind k) (k .bodySize)) (drop firsts (bodyLines f)) ≡ true
+  pub end-frame : isFrameOf (k .end) 4 (lastLine f) ≡ true
+  pub plain-body : all (isPlain (2 + k .bodySize)) (bodyLines f) ≡ true
+  pub plain-end : isPlain 6 (lastLine f) ≡ true
 
 abbrev pub shapeQuestions : Form → (file : List ℕ) → (headerFits : Bool) → List Question
 shapeQuestions k f z = headerQuestions k f ++ ask 5 z ∷ bodyQuestions k (restLines f)

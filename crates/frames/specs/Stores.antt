@@ -5,7 +5,7 @@
 --   runAt kind g at                    the run of a kind that begins at a place of g
 --   isLong size line                   the line is digits, at least so many
 --   Storable g at                      what storing asks of the lines from a place on: digits, as many as a body frame has at least
---   Passed kind g at count next        the run that begins at `at` has `count` lines, and `next` is where it stops
+--   RunPassed kind g at count next     the run that begins at `at` has `count` lines, and `next` is where it stops
 --   PairsStored, NumbersStored xs ..   pairs stand at the front of two slices, or numbers of one, and nothing else differs
 --   StoredPairs, StoredNumbers         a run's frames are stored so, as pairs or as numbers of four digits
 use mathlib.Core.Path.{_≡_}
@@ -41,7 +41,7 @@ pub record Storable (g : List ℕ) (at : ℕ) : Type 0 where
   pub inside : at ≤ length g
   pub long : all (isLong 6) (linesOf (drop at g)) ≡ true
 
-pub record Passed (kind : ℕ) (g : List ℕ) (at count next : ℕ) : Type 0 where
+pub record RunPassed (kind : ℕ) (g : List ℕ) (at count next : ℕ) : Type 0 where
   pub counts : count ≡ length (runAt kind g at)
   pub place : next ≡ pastLines count g at
   pub rest : linesOf (drop next g) ≡ pastRun kind (linesOf (drop at g))
@@ -59,9 +59,9 @@ pub record NumbersStored (xs out outAfter : List ℕ) : Type 0 where
   pub numbers-are : outAfter ≡ sets out 0 xs
 
 pub record StoredPairs (kind : ℕ) (g : List ℕ) (at : ℕ) (firsts seconds firstsAfter secondsAfter : List ℕ) (count next : ℕ) : Type 0 where
-  pub passed : Passed kind g at count next
+  pub passed : RunPassed kind g at count next
   pub pairs : PairsStored (pairsIn kind (runAt kind g at)) firsts seconds firstsAfter secondsAfter
 
 pub record StoredNumbers (kind : ℕ) (g : List ℕ) (at : ℕ) (out outAfter : List ℕ) (count next : ℕ) : Type 0 where
-  pub passed : Passed kind g at count next
+  pub passed : RunPassed kind g at count next
   pub numbers : NumbersStored (numbersIn (runAt kind g at)) out outAfter

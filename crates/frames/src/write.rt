@@ -109,7 +109,7 @@ pub fn put_text(out: &mut [u8], at: usize, text: &[u8]) -> usize
     ensures { λ r. ⌜ Written (now (out .entry)) at (length (now (text .entry))) (now (text .entry)) (now (out .exit)) r ⌝ }
 {
     let mut i: usize = 0;
-    // invariant: Seq.sets, of the text and of what is left of it; falls: bytes of the text left
+    // invariant: counting/specs/Loops Storing, of the text and of what is left of it; falls: bytes of the text left
     while i < text.len() {
         out[at + i] = text[i];
         i += 1;

@@ -1,10 +1,12 @@
 -- A run of arcs judged arc by arc.
 --   wanted-from                    isWanted, arc by arc from the source
+--   table-lent                     an arc table is one that a path may be judged by
 --   marks-none, marks-more         tables of marks: empty, and with one number more
 --   walking-start, -next           the loop that judges
+--   walking-inside                 the next arc is one of the table
 --   walking-there, -elsewhere      no arc is left: at the source's mate, or at another node
 --   walking-apart, -seen, -used    an arc that starts elsewhere than the last one ended, leads to a node seen, has its mate used
-use mathlib.Core.Path.{_≡_, refl, _∙_}
+use mathlib.Core.Path.{_≡_, refl, ap, _∙_}
 use mathlib.Core.Logic.{_≢_, ⊎-elim}
 use mathlib.Core.Bool.{true, false, _&&_, not}
 use mathlib.Core.List.{List, [], _∷_}
@@ -19,12 +21,13 @@ use Rattle.formats.specs.Limits.{arcsMost}
 use Rattle.counting.specs.Tests.{among}
 use Rattle.counting.proofs.Booleans.{and-two, and-five, and-both, test-same, by-test, same-or}
 use Rattle.counting.proofs.Membership.{not-among-out, out-not-among}
-use Rattle.skew.specs.Graph.{Graph, mate, endOf, isRegular, isWanted}
+use Rattle.skew.specs.Graph.{Arc, Graph, mate, endOf, isRegular, isWanted}
 use Rattle.skew.specs.Paths.{tail, head}
+use Rattle.skew.proofs.Arcs.{zipped-length, zipped-at}
+use Rattle.skew.proofs.Mates.{mate-below}
 use Rattle.skew.proofs.Reachable.{Tried, tried-regular, regular-tried}
-use Rattle.arcs.specs.Table.{graphOf}
-use Rattle.judging.specs.Walks.{wantedFrom, Marks, Walking}
-use Rattle.arcs.proofs.Tables.{tail-is, head-is}
+use Rattle.arcs.specs.Table.{tableGraph, ArcTable}
+use Rattle.judging.specs.Walks.{wantedFrom, ArcsLent, PathLent, ArcInside, Marks, Walking}
 
 -- ARC BY ARC
 module _ (g : Graph) where
@@ -61,6 +64,10 @@ module _ (g : Graph) where
       let r = tried-regular g _ is (wanted-tried (g .source) (g .source ∷ []) [] is e) in
       and-both (isRegular g is) _ (r .0) (eq-eqb (endOf g (g .source) is) (mate (g .source)) (r .1)))
 
+-- TABLES
+pub table-lent : {n s : ℕ} {ts hs : List ℕ} → ArcTable n s ts hs → ArcsLent s ts hs
+table-lent T = record { source-byte = omega (arith, T .well-formed .source-node, T .pairs-few); as-long = T .as-long; arcs-few = T .arcs-few }
+
 -- MARKS
 pub marks-none : (n : ℕ) → Marks (replicate n 0) []
 unfolding among
@@ -75,75 +82,84 @@ marks-more t xs y M l x =
     (λ n. rw (ne-eqb x y n, getD-set-other t y x 1 0 n) (M x)) (same-or x y)
 
 -- THE LOOP
-pub walking-start : (g : Graph) (path : List ℕ) → g .source < 256 → Walking g path 0 (g .source) (set (replicate 256 0) (g .source) 1) (replicate arcsMost 0)
-walking-start g path l =
+pub walking-start : {s : ℕ} {ts hs path : List ℕ} → PathLent s ts hs path → Walking s ts hs path 0 s (set (replicate 256 0) s 1) (replicate arcsMost 0)
+walking-start {s} {ts} {hs} {path} L =
     record {
-      within = omega arith;
-      seen = g .source ∷ [];
-      used = [];
-      seen-marks = marks-more (replicate 256 0) [] (g .source) (marks-none 256) (omega (arith, length-replicate {A = ℕ} 256 0));
-      used-marks = marks-none arcsMost;
-      seen-long = length-set (replicate 256 0) (g .source) 1 ∙ length-replicate {A = ℕ} 256 0;
+      lent = L;
+      nodes = s ∷ [];
+      arcs = [];
+      nodes-marked = marks-more (replicate 256 0) [] s (marks-none 256) (omega (arith, L .arcs .source-byte, length-replicate {A = ℕ} 256 0));
+      arcs-marked = marks-none arcsMost;
+      seen-long = length-set (replicate 256 0) s 1 ∙ length-replicate {A = ℕ} 256 0;
       used-long = length-replicate {A = ℕ} arcsMost 0;
-      rest = wanted-from g path;
+      rest = λ n. wanted-from (tableGraph n s ts hs) path;
     }
 
-module _ (n s : ℕ) (ts hs path : List ℕ) (k v : ℕ) (t u : List ℕ) (W : Walking (graphOf n s ts hs) path k v t u) where
-  abbrev g : Graph
-  g = graphOf n s ts hs
-
+module _ {s : ℕ} {ts hs path : List ℕ} {k v : ℕ} {t u : List ℕ} (W : Walking s ts hs path k v t u) where
   -- no arc is left
-  module _ (l : length path ≤ k) (m : ℕ) (em : m ≡ mate s) where
-    walking-end : isWanted g path ≡ eqb v m
+  module _ (l : length path ≤ k) {m : ℕ} (em : m ≡ mate s) (n : ℕ) where
+    walking-end : isWanted (tableGraph n s ts hs) path ≡ eqb v m
     unfolding wantedFrom
-    walking-end = W .rest ∙ rw (drop-of-length-le path {i = k} l, em)
+    walking-end = W .rest n ∙ rw (drop-of-length-le path {i = k} l, em)
 
-    pub walking-elsewhere : v ≢ m → false ≡ isWanted g path
-    walking-elsewhere n = rw (walking-end, ne-eqb v m n)
+    pub walking-elsewhere : v ≢ m → false ≡ isWanted (tableGraph n s ts hs) path
+    walking-elsewhere q = rw (walking-end, ne-eqb v m q)
 
-    pub walking-there : v ≡ m → true ≡ isWanted g path
+    pub walking-there : v ≡ m → true ≡ isWanted (tableGraph n s ts hs) path
     walking-there e = rw (walking-end, eq-eqb v m e)
 
   -- the next arc i goes from x to y, and m is its mate
-  module _ (l : k < length path) (i x : ℕ) (ei : getD path k 0 ≡ i) (low : i < length (g .arcs)) (ex : x ≡ getD ts i 0) where
-    walking-step : (y m : ℕ) → y ≡ getD hs i 0 → m ≡ mate i → isWanted g path ≡
-        (eqb x v && not (eqb (getD t y 0) 1) && not (eqb (getD u m 0) 1) && wantedFrom g y (y ∷ W .seen) (i ∷ W .used) (drop (suc k) path))
-    unfolding wantedFrom
-    walking-step y m ey em =
-        W .rest ∙
-        rw (
-          drop-cons path k 0 l,
-          ei,
-          lt-ltb i (length (g .arcs)) low,
-          tail-is n s ts hs i low,
-          head-is n s ts hs i low,
-          ← ex,
-          ← ey,
-          ← em,
-          W .seen-marks y,
-          W .used-marks m,
-        )
+  module _ (l : k < length path) where
+    abbrev i : ℕ
+    i = getD path k 0
 
-    pub walking-apart : x ≢ v → false ≡ isWanted g path
-    walking-apart n = rw (walking-step _ _ refl refl, ne-eqb x v n)
+    pub walking-inside : ArcInside ts i
+    walking-inside =
+        let low = W .lent .inside k l in
+        let few : i < arcsMost = omega (arith, W .lent .arcs .arcs-few) in
+        record { listed = low; few = few; mate-few = mate-below i arcsMost refl few }
 
-    module _ (e : x ≡ v) (y : ℕ) (ey : y ≡ getD hs i 0) where
-      pub walking-seen : getD t y 0 ≡ 1 → false ≡ isWanted g path
-      walking-seen q = rw (walking-step y _ ey refl, eq-eqb x v e, eq-eqb (getD t y 0) 1 q)
+    module _ {x : ℕ} (ex : x ≡ getD ts i 0) where
+      walking-step : (y m : ℕ) → y ≡ getD hs i 0 → m ≡ mate i → (n : ℕ) → isWanted (tableGraph n s ts hs) path ≡
+          (eqb x v && not (eqb (getD t y 0) 1) && not (eqb (getD u m 0) 1) && wantedFrom (tableGraph n s ts hs) y (y ∷ W .nodes) (i ∷ W .arcs) (drop (suc k) path))
+      unfolding wantedFrom
+      walking-step y m ey em n =
+          let low : i < length (tableGraph n s ts hs .arcs) = omega (arith, walking-inside .listed, zipped-length ts hs (W .lent .arcs .as-long)) in
+          let tail-is : tail (tableGraph n s ts hs) i ≡ getD ts i 0 = ap (λ (a : Arc). a .tail) (zipped-at ts hs i low) in
+          let head-is : head (tableGraph n s ts hs) i ≡ getD hs i 0 = ap (λ (a : Arc). a .head) (zipped-at ts hs i low) in
+          W .rest n ∙
+          rw (
+            drop-cons path k 0 l,
+            lt-ltb i (length (tableGraph n s ts hs .arcs)) low,
+            tail-is,
+            head-is,
+            ← ex,
+            ← ey,
+            ← em,
+            W .nodes-marked y,
+            W .arcs-marked m,
+          )
 
-      module _ (f : getD t y 0 ≢ 1) (m : ℕ) (em : m ≡ mate i) where
-        pub walking-used : getD u m 0 ≡ 1 → false ≡ isWanted g path
-        walking-used q = rw (walking-step y m ey em, eq-eqb x v e, ne-eqb (getD t y 0) 1 f, eq-eqb (getD u m 0) 1 q)
+      pub walking-apart : x ≢ v → (n : ℕ) → false ≡ isWanted (tableGraph n s ts hs) path
+      walking-apart q n = rw (walking-step _ _ refl refl n, ne-eqb x v q)
 
-        pub walking-next : getD u m 0 ≢ 1 → y < 256 → i < arcsMost → Walking g path (k + 1) y (set t y 1) (set u i 1)
-        walking-next q h a =
-            record {
-              within = omega arith;
-              seen = y ∷ W .seen;
-              used = i ∷ W .used;
-              seen-marks = marks-more t (W .seen) y (W .seen-marks) (omega (arith, W .seen-long));
-              used-marks = marks-more u (W .used) i (W .used-marks) (omega (arith, W .used-long));
-              seen-long = length-set t y 1 ∙ W .seen-long;
-              used-long = length-set u i 1 ∙ W .used-long;
-              rest = walking-step y m ey em ∙ rw (eq-eqb x v e, ne-eqb (getD t y 0) 1 f, ne-eqb (getD u m 0) 1 q, add-one k);
-            }
+      module _ (e : x ≡ v) {y : ℕ} (ey : y ≡ getD hs i 0) where
+        pub walking-seen : getD t y 0 ≡ 1 → (n : ℕ) → false ≡ isWanted (tableGraph n s ts hs) path
+        walking-seen q n = rw (walking-step y _ ey refl n, eq-eqb x v e, eq-eqb (getD t y 0) 1 q)
+
+        module _ (f : getD t y 0 ≢ 1) {m : ℕ} (em : m ≡ mate i) where
+          pub walking-used : getD u m 0 ≡ 1 → (n : ℕ) → false ≡ isWanted (tableGraph n s ts hs) path
+          walking-used q n = rw (walking-step y m ey em n, eq-eqb x v e, ne-eqb (getD t y 0) 1 f, eq-eqb (getD u m 0) 1 q)
+
+          pub walking-next : getD u m 0 ≢ 1 → y < 256 → Walking s ts hs path (k + 1) y (set t y 1) (set u i 1)
+          walking-next q h =
+              record {
+                lent = W .lent;
+                nodes = y ∷ W .nodes;
+                arcs = i ∷ W .arcs;
+                nodes-marked = marks-more t (W .nodes) y (W .nodes-marked) (omega (arith, W .seen-long));
+                arcs-marked = marks-more u (W .arcs) i (W .arcs-marked) (omega (arith, W .used-long, walking-inside .few));
+                seen-long = length-set t y 1 ∙ W .seen-long;
+                used-long = length-set u i 1 ∙ W .used-long;
+                rest = λ n. walking-step y m ey em n ∙ rw (eq-eqb x v e, ne-eqb (getD t y 0) 1 f, ne-eqb (getD u m 0) 1 q, add-one k);
+              }

@@ -1,7 +1,7 @@
 // Is a table of classes a barrier? (document 01, "The barrier"; document 03, isBarrier)
 //   mate_class, mates_agree       mates are in classes that are mates
 //   classes_fit, arcs_fit         no arc goes where none may
-//   count_entries, largest, all_entered    one arc from A into each Xi
+//   count_entries, largest_class, all_entered    one arc from A into each Xi
 //   is_barrier                    all of these, and the source in A
 ghost use mathlib.Core.Path.{_≡_};
 ghost use Prim.Native.Nat.{ℕ, _*_, _%_, _≤_, _<_};
@@ -9,8 +9,8 @@ ghost use lib.ListN.{length, getD};
 ghost use Rattle.formats.specs.Limits.{arcsMost};
 ghost use Rattle.counting.specs.Tests.{all, below};
 ghost use Rattle.counting.specs.Pairs.{zipPairs};
-ghost use Rattle.skew.specs.Graph.{mateClass, matesAgree, largestOf, arcFits, entriesInto, isBarrier};
-ghost use Rattle.arcs.specs.Table.{graphOf, ArcTable, Covers};
+ghost use Rattle.skew.specs.Graph.{arcsOf, mateClass, matesAgree, largestOf, arcFits, entriesInto, isBarrier};
+ghost use Rattle.arcs.specs.Table.{tableGraph, ArcTable, Covers};
 ghost use Rattle.skew.specs.Barrier.{classesFit};
 ghost use Rattle.judging.specs.Barriers.{allEntered};
 use arcs::node::mate_of;
@@ -34,7 +34,7 @@ fn mates_agree(classes: &[u8]) -> bool
     ensures { λ r. ⌜ r ≡ all (matesAgree (now (classes .entry))) (below (length (now (classes .entry)))) ⌝ }
 {
     let mut v: usize = 0;
-    // invariant: proofs/Judging Judged matesAgree; falls: nodes left
+    // invariant: counting/specs/Loops Judged matesAgree; falls: nodes left
     while v < classes.len() {
         let m = mate_of(v);
         if classes[m] != mate_class(classes[v]) {
@@ -69,10 +69,10 @@ fn classes_fit(a: u8, b: u8) -> bool
 
 fn arcs_fit(tails: &[u8], heads: &[u8], classes: &[u8]) -> bool
     requires { ⌜ Covers (now tails) (now heads) (length (now classes)) ⌝ }
-    ensures { λ r. ⌜ r ≡ all (arcFits (now (classes .entry))) (zipPairs (now (tails .entry)) (now (heads .entry))) ⌝ }
+    ensures { λ r. ⌜ r ≡ all (arcFits (now (classes .entry))) (arcsOf (zipPairs (now (tails .entry)) (now (heads .entry)))) ⌝ }
 {
     let mut i: usize = 0;
-    // invariant: proofs/Judging Judged arcFits; falls: arcs left
+    // invariant: counting/specs/Loops Judged arcFits; falls: arcs left
     while i < tails.len() {
         let t = wide(tails[i]);
         let h = wide(heads[i]);
@@ -88,7 +88,7 @@ fn arcs_fit(tails: &[u8], heads: &[u8], classes: &[u8]) -> bool
 fn count_entries(tails: &[u8], heads: &[u8], classes: &[u8]) -> [u16; 256]
     requires { ⌜ Covers (now tails) (now heads) (length (now classes)) ⌝ }
     requires { ⌜ length (now tails) ≤ arcsMost ⌝ }
-    ensures { λ r. ⌜ ((c : ℕ) → c < 256 → getD r c 0 ≡ entriesInto (now (classes .entry)) c (zipPairs (now (tails .entry)) (now (heads .entry)))) ⌝ }
+    ensures { λ r. ⌜ ((c : ℕ) → c < 256 → getD r c 0 ≡ entriesInto (now (classes .entry)) c (arcsOf (zipPairs (now (tails .entry)) (now (heads .entry))))) ⌝ }
 {
     let mut entries = [0u16; 256];
     let mut i: usize = 0;
@@ -105,7 +105,7 @@ fn count_entries(tails: &[u8], heads: &[u8], classes: &[u8]) -> [u16; 256]
     entries
 }
 
-fn largest(classes: &[u8]) -> u8
+fn largest_class(classes: &[u8]) -> u8
     ensures { λ r. ⌜ r ≡ largestOf (now (classes .entry)) ⌝ }
 {
     let mut top: u8 = 0;
@@ -126,7 +126,7 @@ fn all_entered(top: u8, entries: &[u16; 256]) -> bool
 {
     let last = wide(top);
     let mut c: usize = 3;
-    // invariant: proofs/Judging Judged enteredOnce; falls: classes left
+    // invariant: counting/specs/Loops Judged enteredOnce; falls: classes left
     while c <= last {
         if entries[c] != 1 {
             return false; // entered never, or twice
@@ -138,7 +138,7 @@ fn all_entered(top: u8, entries: &[u16; 256]) -> bool
 
 pub fn is_barrier(pairs: usize, source: usize, tails: &[u8], heads: &[u8], classes: &[u8]) -> bool
     requires { ⌜ ArcTable pairs source (now tails) (now heads) ⌝ }
-    ensures { λ r. ⌜ r ≡ isBarrier (graphOf pairs source (now (tails .entry)) (now (heads .entry))) (now (classes .entry)) ⌝ }
+    ensures { λ r. ⌜ r ≡ isBarrier (tableGraph pairs source (now (tails .entry)) (now (heads .entry))) (now (classes .entry)) ⌝ }
 {
     if classes.len() != 2 * pairs {
         return false; // not a class for each node
@@ -153,5 +153,5 @@ pub fn is_barrier(pairs: usize, source: usize, tails: &[u8], heads: &[u8], class
         return false; // an arc that may not be
     }
     let entries = count_entries(tails, heads, classes);
-    all_entered(largest(classes), &entries)
+    all_entered(largest_class(classes), &entries)
 }

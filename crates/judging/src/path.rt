@@ -1,19 +1,19 @@
 // Is a run of arcs a regular path from the source to its mate? (document 01, "The graph"; document 03, isWanted)
 //   is_wanted     judged arc by arc, with a table of nodes seen and one of arcs used
 ghost use mathlib.Core.Path.{_≡_};
-ghost use Prim.Native.Nat.{ℕ, _<_};
-ghost use lib.ListN.{length, getD};
+ghost use Prim.Native.Nat.{ℕ};
 ghost use Rattle.skew.specs.Graph.{isWanted};
-ghost use Rattle.arcs.specs.Table.{graphOf, ArcTable};
+ghost use Rattle.arcs.specs.Table.{tableGraph};
+ghost use Rattle.judging.specs.Walks.{PathLent};
 use arcs::node::mate_of;
 use arcs::node::wide;
 use formats::limits::ARCS_MOST;
 
 // Each arc starts where the one before ended, at a node not seen before, and its mate was not used. Mates are told by their numbers.
-pub fn is_wanted(pairs: usize, source: usize, tails: &[u8], heads: &[u8], path: &[u16]) -> bool
-    requires { ⌜ ArcTable pairs source (now tails) (now heads) ⌝ }
-    requires { ⌜ ((k : ℕ) → k < length (now path) → getD (now path) k 0 < length (now tails)) ⌝ }
-    ensures { λ r. ⌜ r ≡ isWanted (graphOf pairs source (now (tails .entry)) (now (heads .entry))) (now (path .entry)) ⌝ }
+// The number of mate pairs plays no part.
+pub fn is_wanted(source: usize, tails: &[u8], heads: &[u8], path: &[u16]) -> bool
+    requires { ⌜ PathLent source (now tails) (now heads) (now path) ⌝ }
+    ensures { λ r. ⌜ ((n : ℕ) → r ≡ isWanted (tableGraph n source (now (tails .entry)) (now (heads .entry))) (now (path .entry))) ⌝ }
 {
     let mut seen = [0u8; 256];
     let mut used = [0u8; ARCS_MOST];

@@ -29,7 +29,7 @@ use Rattle.files.proofs.AcceptedFiles.{stock-few, fits-few}
 use Rattle.files.proofs.PlanFiles.{plan-held, plan-few}
 use Rattle.kept.specs.State.{isKept, pairsUnder, KeptCall, bring, keepAs, comeBack, forget, nameFault, placeFault, faultOf, changed}
 use Rattle.kept.specs.Block.{firstsAt, secondsAt, camerasIn, fitsIn, keptIn, namedIn, stateOf, Owes, Returns}
-use Rattle.kept.specs.Slots.{StockPut, KeptPut, ClosedUp, Found, Stored}
+use Rattle.kept.specs.Slots.{StockPut, KeptPut, ClosedUp, NameFound, Stored}
 use Rattle.kept.proofs.Fronts.{kept-put}
 
 -- ANY CALL
@@ -45,16 +45,16 @@ module _ {b : List ℕ} (k : KeptCall) {n : ℕ} (e : n ≡ faultOf (stateOf b) 
 module _ {f us vs xs ys : List ℕ} {n k l : ℕ} (h : StockHeld f us vs xs ys n k l) (e : stockFault f ≡ 0) where
   pub stock-small : (n ≤ camerasMost) × ((length (take k us) ≤ fitsMost) × (length (take k vs) ≡ length (take k us)))
   stock-small =
-      let r = length-take-le k us (h .fitsRoom .first) in (
-        omega (arith, h .camerasAre, stock-few f e),
+      let r = length-take-le k us (h .fits-room .first) in (
+        omega (arith, h .cameras-are, stock-few f e),
         (
-          omega (arith, r, pairs-length (h .fitsRoom), ap (λ (zs : List Pair). length zs) (h .fitsAre), fits-few f e),
-          length-take-le k vs (h .fitsRoom .second) ∙ sym r,
+          omega (arith, r, pairs-length (h .fits-room), ap (λ (zs : List Pair). length zs) (h .fits-are), fits-few f e),
+          length-take-le k vs (h .fits-room .second) ∙ sym r,
         ),
       )
 
   pub brought : {b c : List ℕ} → StockPut n (pairsOf k us vs) c → Owes b (bring f) 0 c
-  brought p = call-accepted (bring f) (sym e) refl (p ∙ rw (h .camerasAre, h .fitsAre))
+  brought p = call-accepted (bring f) (sym e) refl (p ∙ rw (h .cameras-are, h .fits-are))
 
 -- A PLAN, read against the stock in the block
 module _ (b : List ℕ) (n : ℕ) {cameras fits number count : ℕ} {f us vs us' vs' : List ℕ} (c : cameras ≡ camerasIn b) (k : fits ≡ fitsIn b)
@@ -74,20 +74,20 @@ module _ (b : List ℕ) (n : ℕ) {cameras fits number count : ℕ} {f us vs us'
         let h = plan-held r e in
         let l = length-take-le count us' (h .room .first) in
         let few = plan-few (stateOf b .cameras) (stateOf b .fits) f (omega arith) none in (
-          omega (arith, l, pairs-length (h .room), ap (λ (zs : List Pair). length zs) (h .pairsAre), few),
+          omega (arith, l, pairs-length (h .room), ap (λ (zs : List Pair). length zs) (h .pairs-are), few),
           length-take-le count vs' (h .room .second) ∙ sym l,
         )
 
     pub plan-stored : {d : List ℕ} {m : ℕ} → Stored b n (pairsOf count us' vs') m d → Owes b (keepAs n f) m d
     plan-stored {d} {m} s =
         let is : m ≡ faultOf (stateOf b) (keepAs n f) = s .says ∙ sym (or-go _ (placeFault (stateOf b) n) none) in
-        by-test (eqb m 0) (λ t. let y = eqb-true m 0 t in call-accepted (keepAs n f) is y (s .leaves y ∙ rw (plan-held r e .pairsAre)))
+        by-test (eqb m 0) (λ t. let y = eqb-true m 0 t in call-accepted (keepAs n f) is y (s .leaves y ∙ rw (plan-held r e .pairs-are)))
         (λ t.
         let h = eqb-false m 0 t in
         subst (λ (x : List ℕ). Owes b (keepAs n f) m x) (sym (s .untouched h)) (call-refused (keepAs n f) is h))
 
 -- QUESTION 18
-module _ {b : List ℕ} {count n r : ℕ} (F : Found b count n r) (all : count ≡ keptIn b) where
+module _ {b : List ℕ} {count n r : ℕ} (F : NameFound b count n r) (all : count ≡ keptIn b) where
   pub name-unknown : r ≡ 0 → nameFault (stateOf b) n ≡ 18
   name-unknown z = let e : isKept (stateOf b) n ≡ false = rw all at (F .none z) in rw e
 
@@ -96,7 +96,7 @@ module _ {b : List ℕ} {count n r : ℕ} (F : Found b count n r) (all : count �
       let s = F .some (omega (arith, h)) in let e : isKept (stateOf b) n ≡ true = rw all at (s .0) in (rw e, rw all at (s .1))
 
 -- FORGETTING
-pub forgot : {b m c : List ℕ} {count n r left : ℕ} → Found b count n r → count ≡ keptIn b → r ≢ 0 → ClosedUp b count n m left → count ≤ namesMost →
+pub forgot : {b m c : List ℕ} {count n r left : ℕ} → NameFound b count n r → count ≡ keptIn b → r ≢ 0 → ClosedUp b count n m left → count ≤ namesMost →
     KeptPut m left c → Owes b (forget n) 0 c
 forgot {b} {m} {n = n} F all h closed few put =
     call-accepted (forget n) (sym (name-known F all h .0)) refl (kept-put b m (closed .front) put (omega (arith, closed .few)) ∙ rw (closed .entries, all))

@@ -5,7 +5,7 @@
 --   slot-byte, slot-part, name-at                 a byte and a part of a slot, and its name, as they stand in the block
 --   moved                                         a slot's bytes copied to another slot
 --   passed-named, passed-else                     a slot passed, which has the name or not
---   closing-start, closing-step, closing-end      all slots passed
+--   closing-start, closing-next, closing-end      all slots passed
 use mathlib.Core.Path.{_≡_, refl, sym, ap, _∙_}
 use mathlib.Core.Logic.{_≢_, inl, inr}
 use mathlib.Core.List.{List, _∷_}
@@ -25,7 +25,7 @@ use Rattle.frames.specs.Lines.{part}
 use Rattle.frames.specs.Writes.{Written}
 use Rattle.kept.specs.State.{isNamed, without}
 use Rattle.kept.specs.Block.{slotsAt, slotSize, blockSize, slotOf, namedIn, entriesIn}
-use Rattle.kept.specs.Slots.{Moved, Passed, Closing, ClosedUp}
+use Rattle.kept.specs.Slots.{Moved, SlotPassed, Closing, ClosedUp}
 
 abbrev pub slotAt : (slot : ℕ) → ℕ
 slotAt i = slotsAt + slotSize * i
@@ -80,11 +80,11 @@ module _ {b spare spare' b' : List ℕ} {from to n k p q : ℕ}
       }
 
 -- PASSED
-pub passed-named : (b : List ℕ) (i to n : ℕ) → getD b (slotAt i) 0 ≡ n → Passed b i to n b to
+pub passed-named : (b : List ℕ) (i to n : ℕ) → getD b (slotAt i) 0 ≡ n → SlotPassed b i to n b to
 passed-named b i to n e =
     record { entries = rw (eq-eqb (getD (slotOf i b) 0 0) n (name-at i b ∙ e)); later = λ j h. refl; few = omega arith; front = refl }
 
-pub passed-else : {b c : List ℕ} {i to : ℕ} (n : ℕ) → to ≤ i → getD b (slotAt i) 0 ≢ n → Moved b i to c → Passed b i to n c (to + 1)
+pub passed-else : {b c : List ℕ} {i to : ℕ} (n : ℕ) → to ≤ i → getD b (slotAt i) 0 ≢ n → Moved b i to c → SlotPassed b i to n c (to + 1)
 unfolding entriesIn
 passed-else {b} {c} {i} {to} n h e m =
     let s : entriesIn to c ≡ entriesIn to b = entries-same b c to (λ j l. m .others j (λ q. omega arith)) in
@@ -101,9 +101,9 @@ unfolding entriesIn keep
 closing-start b count n = record { within = omega arith; few = omega arith; entries = refl; later = λ j h. refl; front = refl }
 
 module _ {b c : List ℕ} {count n i left : ℕ} (p : Closing b count n c i left) where
-  pub closing-step : {d : List ℕ} {next : ℕ} → i < count → Passed c i left n d next → Closing b count n d (i + 1) next
+  pub closing-next : {d : List ℕ} {next : ℕ} → i < count → SlotPassed c i left n d next → Closing b count n d (i + 1) next
   unfolding entriesIn keep
-  closing-step {d} {next} h q =
+  closing-next {d} {next} h q =
       let e : entriesIn next d ≡ pick (isNamed n (namedIn i b)) (without n (entriesIn i b)) (namedIn i b ∷ without n (entriesIn i b)) =
       rw (p .later i (omega arith), p .entries) at (q .entries) in
       record {

@@ -24,7 +24,7 @@ use Rattle.files.specs.Answers.{WrittenFirst}
 use Rattle.files.proofs.AnswerLines.{front-written}
 use Rattle.kept.specs.State.{isNamed, without, placeFault}
 use Rattle.kept.specs.Block.{slotsAt, slotSize, blockSize, pairsAt, othersAt, keptIn, slotOf, namedIn, entriesIn, stateOf}
-use Rattle.kept.specs.Slots.{KeptPut, ClosedUp, PairsPut, Found, Stored}
+use Rattle.kept.specs.Slots.{KeptPut, ClosedUp, PairsPut, NameFound, Stored}
 use Rattle.kept.proofs.Columns.{columns-after, header-back, pairs-back}
 use Rattle.kept.proofs.Entries.{slotAt, part-sized, entries-same, entries-length, slot-byte, slot-part}
 use Rattle.kept.proofs.ByName.{without-fewer}
@@ -61,7 +61,7 @@ pairs-written i b {x} {k} {r} {out} {out'} e f h w =
     (front-written (rw z at w) (omega arith), omega (arith, w .place))
 
 -- PAIRS KEPT
-module _ {b : List ℕ} {n kept r : ℕ} (found : Found b kept n r) where
+module _ {b : List ℕ} {n kept r : ℕ} (found : NameFound b kept n r) where
   pub place-left : {c : List ℕ} {left : ℕ} → (r ≢ 0) ⊎ (kept ≢ namesMost) → kept ≤ namesMost → ClosedUp b kept n c left → left < namesMost
   place-left {c} {left} place few closed =
       ⊎-elim

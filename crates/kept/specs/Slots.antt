@@ -3,11 +3,11 @@
 --   StockPut c fs b                a block with this stock, and no name
 --   KeptPut b k b'                 another number of names, and nothing else differs
 --   Moved b from to b'             a slot's bytes stand in another slot too, and nothing else differs
---   Passed b i to n b' left        slot i is passed: dropped where it has the name, and otherwise moved to slot `to`
+--   SlotPassed b i to n b' left    slot i is passed: dropped where it has the name, and otherwise moved to slot `to`
 --   Closing b count n b' i left    the first i of the slots are passed
 --   ClosedUp b count n b' left     all of them are: those that have another name are left, closed up
 --   PairsPut b to n ps b'          a name and its pairs stand in a slot, and the slots below it as they were
---   Found b count n r              r is one more than the slot that was kept last under a name, 0 where the name is not kept
+--   NameFound b count n r          r is one more than the slot that was kept last under a name, 0 where the name is not kept
 --   Stored b n ps number b'        pairs kept under a name; or 19, and every byte as it was
 use mathlib.Core.Path.{_≡_}
 use mathlib.Core.Logic.{_≢_}
@@ -35,7 +35,7 @@ pub record Moved (b : List ℕ) (from to : ℕ) (then : List ℕ) : Type 0 where
   pub others : (i : ℕ) → i ≢ to → slotOf i then ≡ slotOf i b
   pub front : frontOf then ≡ frontOf b
 
-pub record Passed (b : List ℕ) (i to n : ℕ) (then : List ℕ) (left : ℕ) : Type 0 where
+pub record SlotPassed (b : List ℕ) (i to n : ℕ) (then : List ℕ) (left : ℕ) : Type 0 where
   pub entries : entriesIn left then ≡ pick (isNamed n (namedIn i b)) (entriesIn to b) (namedIn i b ∷ entriesIn to b)
   pub later : (j : ℕ) → i < j → slotOf j then ≡ slotOf j b
   pub few : left ≤ suc to
@@ -57,7 +57,7 @@ pub record PairsPut (b : List ℕ) (to n : ℕ) (ps : List Pair) (then : List �
   pub entries : entriesIn (suc to) then ≡ record { name = n; pairs = ps } ∷ entriesIn to b
   pub front : frontOf then ≡ frontOf b
 
-pub record Found (b : List ℕ) (count n r : ℕ) : Type 0 where
+pub record NameFound (b : List ℕ) (count n r : ℕ) : Type 0 where
   pub within : r ≤ count
   pub none : r ≡ 0 → any (isNamed n) (entriesIn count b) ≡ false
   pub some : 0 < r → (any (isNamed n) (entriesIn count b) ≡ true) × (pairsUnder n (entriesIn count b) ≡ namedIn (r - 1) b .pairs)

@@ -23,7 +23,7 @@ ghost use Rattle.counting.specs.Pairs.{zipPairs};
 ghost use Rattle.files.specs.Answers.{WrittenFirst};
 ghost use Rattle.files.specs.StockFile.{planText};
 ghost use Rattle.kept.specs.Block.{namedIn};
-ghost use Rattle.kept.specs.Slots.{Moved, Passed, ClosedUp, PairsPut, Found, Stored};
+ghost use Rattle.kept.specs.Slots.{Moved, SlotPassed, ClosedUp, PairsPut, NameFound, Stored};
 
 const SLOT: usize = 128;
 
@@ -34,7 +34,7 @@ const OTHERS: usize = PAIRS + PAIRS_MOST;
 // One more than the slot that was kept last under the name; 0 where none was.
 pub fn find(state: &[u8; STATE], count: usize, name: u8) -> usize
     requires { ⌜ count ≤ namesMost ⌝ }
-    ensures { λ r. ⌜ Found (now (state .entry)) count name r ⌝ }
+    ensures { λ r. ⌜ NameFound (now (state .entry)) count name r ⌝ }
 {
     let mut i = count;
     // invariant: what stands under the name stands in the slots below i; falls: i
@@ -65,7 +65,7 @@ fn move_slot(state: &mut [u8; STATE], from: usize, to: usize)
 fn pass_slot(state: &mut [u8; STATE], i: usize, to: usize, name: u8) -> usize
     requires { ⌜ i < namesMost ⌝ }
     requires { ⌜ to ≤ i ⌝ }
-    ensures { λ r. ⌜ Passed (now (state .entry)) i to name (now (state .exit)) r ⌝ }
+    ensures { λ r. ⌜ SlotPassed (now (state .entry)) i to name (now (state .exit)) r ⌝ }
 {
     if state[SLOTS + SLOT * i] == name {
         return to;

@@ -21,7 +21,7 @@ use Rattle.matching.proofs.Matchings.{list-count}
 use Rattle.matching.proofs.Plans.{budgeted-parts}
 use Rattle.matching.proofs.Promises as matching
 use Rattle.matching.proofs.Promises.{well-formed-fits}
-use Rattle.pairing.proofs.Improving.{enough-searches}
+use Rattle.pairing.proofs.SearchRuns.{enough-searches}
 use Rattle.files.specs.StockFile.{stockIn, stockFault}
 use Rattle.files.specs.Answers.{over}
 use Rattle.files.proofs.AcceptedFiles.{accepted-stock, stock-few}

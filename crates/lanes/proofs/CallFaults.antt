@@ -1,34 +1,36 @@
 -- The questions of a call before its file's: 17, then 1.
 --   call-refused    a refusal by one of them stands, whatever else is asked
---   call-past       where neither refuses, the others decide; and there is room
+--   call-passes     where neither refuses, the others decide; and there is room
 --   call-is         a call's refusal is 17, 1 or that of the others: what holds of the three holds of it
 --   call-none       where a call is not refused, none of its questions refuses
 --   call-some       where one of the others refuses, the call is refused
 use mathlib.Core.Path.{_≡_, refl, _∙_}
 use mathlib.Core.Logic.{_≢_}
 use mathlib.Core.Bool.{false}
-use Prim.Native.Nat.{ℕ, _≤_}
+use Prim.Native.Nat.{ℕ}
 use native.Mathlib.Omega.{arith}
 use lib.Dec.{eqb, ltb, leb}
 use borrow.Author.Tests.{leb-true}
 use Rattle.formats.specs.Limits.{callers, room}
 use Rattle.counting.proofs.Booleans.{by-test}
 use Rattle.lanes.specs.Entry.{callFault}
+use Rattle.lanes.specs.Calls.{CallAsked, CallPasses}
+
+module _ {c n k : ℕ} (A : CallAsked c n k) where
+  pub call-refused : k ≢ 0 → (m : ℕ) → callFault c n m ≡ k
+  call-refused h m =
+      rw (A .is)
+      (by-test (ltb c callers) (λ t. by-test (leb room n) (λ u. absurd (h (A .is ∙ rw (t, u)))) (λ u. rw (t, u))) (λ t. rw t))
+
+  pub call-passes : k ≡ 0 → CallPasses c n
+  call-passes z =
+      by-test (ltb c callers)
+      (λ t.
+      by-test (leb room n) (λ u. record { others = λ m. rw (t, u); roomy = leb-true room n u })
+      (λ u. let e : k ≡ 1 = A .is ∙ rw (t, u) in absurd (omega arith)))
+      (λ t. let e : k ≡ 17 = A .is ∙ rw t in absurd (omega arith))
 
 module _ (c n m : ℕ) where
-  module _ {k : ℕ} (asked : k ≡ callFault c n 0) where
-    pub call-refused : k ≢ 0 → callFault c n m ≡ k
-    call-refused h =
-        rw asked
-        (by-test (ltb c callers) (λ t. by-test (leb room n) (λ u. absurd (h (asked ∙ rw (t, u)))) (λ u. rw (t, u))) (λ t. rw t))
-
-    pub call-past : k ≡ 0 → (callFault c n m ≡ m) × (room ≤ n)
-    call-past z =
-        by-test (ltb c callers)
-        (λ t.
-        by-test (leb room n) (λ u. (rw (t, u), leb-true room n u)) (λ u. let e : k ≡ 1 = asked ∙ rw (t, u) in absurd (omega arith)))
-        (λ t. let e : k ≡ 17 = asked ∙ rw t in absurd (omega arith))
-
   pub call-is : (P : ℕ → Type 0) → P 17 → P 1 → P m → P (callFault c n m)
   call-is P p q r = by-test (ltb c callers) (λ t. by-test (leb room n) (λ u. rw (t, u) r) (λ u. rw (t, u) q)) (λ t. rw t p)
 

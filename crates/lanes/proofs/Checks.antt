@@ -4,6 +4,7 @@
 --   barrier-verdict, path-verdict                                   the answer by the first line is the certificate's
 --   check-refused, check-judged                                     the call: a graph refused, and one past the questions
 use mathlib.Core.Path.{_≡_, ap, sym, _∙_}
+use mathlib.Core.Logic.{_≢_}
 use mathlib.Core.Bool.{Bool, true, false}
 use mathlib.Core.List.{List}
 use Prim.Native.Nat.{ℕ, _+_}
@@ -15,44 +16,49 @@ use Rattle.counting.specs.Tests.{pick}
 use Rattle.counting.proofs.Booleans.{pick-true, pick-false, by-test}
 use Rattle.frames.specs.Writes.{beginsBarrier}
 use Rattle.frames.proofs.Questions.{or-stop, or-go}
-use Rattle.arcs.specs.Table.{graphOf}
+use Rattle.arcs.specs.Table.{tableGraph}
 use Rattle.skew.specs.Graph.{Graph, isWanted, isBarrier}
 use Rattle.files.specs.GraphFile.{graphIn, graphFault}
 use Rattle.files.specs.CertificateFile.{pathArcs, pathFault, barrierClasses, barrierFault, certFault, certHolds}
 use Rattle.files.specs.CertificateReaders.{PathHeld, BarrierHeld}
-use Rattle.files.specs.Readers.{GraphHeld}
 use Rattle.files.proofs.FirstLines.{begins-other, cert-barrier, cert-path, path-file}
 use Rattle.files.proofs.ArcTables.{held-graph}
 use Rattle.lanes.specs.Entry.{checkFault, checkPost}
+use Rattle.lanes.specs.GraphCalls.{GraphTaken}
 use Rattle.lanes.specs.Verdicts.{verdictOf, certNumber, pathVerdict, barrierVerdict, certVerdict}
 use Rattle.lanes.specs.declared.Verdict.{Verdict}
 use Rattle.lanes.specs.declared.Verdict.the-variants.{Refused, Yes, No}
 
-verdict-refused : (n : ℕ) (z : Bool) → (n ≡ 0 → ⊥) → verdictOf (certNumber n) z ≡ Refused (40 + n)
+verdict-refused : (n : ℕ) (z : Bool) → n ≢ 0 → verdictOf (certNumber n) z ≡ Refused (40 + n)
 verdict-refused n z h = rw (ne-eqb n 0 h, ne-eqb (40 + n) 0 (λ q. omega arith))
 
 verdict-judged : (n : ℕ) (z : Bool) → n ≡ 0 → verdictOf (certNumber n) z ≡ pick z Yes No
 verdict-judged n z e = rw e
 
 -- READ
-module _ (g : Graph) (f : List ℕ) {v : Verdict} where
-  pub path-refused : {n : ℕ} → n ≡ pathFault g f → (n ≡ 0 → ⊥) → v ≡ Refused (40 + n) → v ≡ pathVerdict g f
-  path-refused {n} q h e =
-      e ∙ sym (verdict-refused n (isWanted g (pathArcs f)) h) ∙ ap (λ (m : ℕ). verdictOf (certNumber m) (isWanted g (pathArcs f))) q
+module _ (g : Graph) (f : List ℕ) {v : Verdict} {n : ℕ} where
+  module _ (says : n ≡ pathFault g f) where
+    pub path-refused : n ≢ 0 → v ≡ Refused (40 + n) → v ≡ pathVerdict g f
+    path-refused h e =
+        e ∙ sym (verdict-refused n (isWanted g (pathArcs f)) h) ∙ ap (λ (m : ℕ). verdictOf (certNumber m) (isWanted g (pathArcs f))) says
 
-  pub path-judged : {xs : List ℕ} {b k : ℕ} → PathHeld f xs b k → pathFault g f ≡ 0 → v ≡ pick (isWanted g (take k xs)) Yes No → v ≡ pathVerdict g f
-  path-judged h z e =
-      e ∙ ap (λ (is : List ℕ). pick (isWanted g is) Yes No) (h .arcsAre) ∙ sym (verdict-judged (pathFault g f) (isWanted g (pathArcs f)) z)
+    pub path-judged : n ≡ 0 → {xs : List ℕ} {b k : ℕ} → PathHeld f xs b k → {holds : Bool} → holds ≡ isWanted g (take k xs) → v ≡ pick holds Yes No →
+        v ≡ pathVerdict g f
+    path-judged z h q e =
+        e ∙ ap (λ (b : Bool). pick b Yes No) (q ∙ ap (isWanted g) (h .arcs-are)) ∙
+        sym (verdict-judged (pathFault g f) (isWanted g (pathArcs f)) (sym says ∙ z))
 
-  pub barrier-refused : {n : ℕ} → n ≡ barrierFault g f → (n ≡ 0 → ⊥) → v ≡ Refused (40 + n) → v ≡ barrierVerdict g f
-  barrier-refused {n} q h e =
-      e ∙ sym (verdict-refused n (isBarrier g (barrierClasses f)) h) ∙
-      ap (λ (m : ℕ). verdictOf (certNumber m) (isBarrier g (barrierClasses f))) q
+  module _ (says : n ≡ barrierFault g f) where
+    pub barrier-refused : n ≢ 0 → v ≡ Refused (40 + n) → v ≡ barrierVerdict g f
+    barrier-refused h e =
+        e ∙ sym (verdict-refused n (isBarrier g (barrierClasses f)) h) ∙
+        ap (λ (m : ℕ). verdictOf (certNumber m) (isBarrier g (barrierClasses f))) says
 
-  pub barrier-judged : {xs : List ℕ} {k : ℕ} → BarrierHeld f xs k → barrierFault g f ≡ 0 → v ≡ pick (isBarrier g (take k xs)) Yes No → v ≡ barrierVerdict g f
-  barrier-judged h z e =
-      e ∙ ap (λ (cs : List ℕ). pick (isBarrier g cs) Yes No) (h .classesAre) ∙
-      sym (verdict-judged (barrierFault g f) (isBarrier g (barrierClasses f)) z)
+    pub barrier-judged : n ≡ 0 → {xs : List ℕ} {k : ℕ} → BarrierHeld f xs k → {holds : Bool} → holds ≡ isBarrier g (take k xs) → v ≡ pick holds Yes No →
+        v ≡ barrierVerdict g f
+    barrier-judged z h q e =
+        e ∙ ap (λ (b : Bool). pick b Yes No) (q ∙ ap (isBarrier g) (h .classes-are)) ∙
+        sym (verdict-judged (barrierFault g f) (isBarrier g (barrierClasses f)) (sym says ∙ z))
 
 -- EITHER KIND
 module _ (g : Graph) (f : List ℕ) where
@@ -74,13 +80,13 @@ module _ (g : Graph) (f : List ℕ) where
 
 -- THE CALL
 module _ (f c : List ℕ) where
-  pub check-refused : {n : ℕ} → n ≡ graphFault f → (n ≡ 0 → ⊥) → Refused n ≡ checkPost f c
+  pub check-refused : {n : ℕ} → n ≡ graphFault f → n ≢ 0 → Refused n ≡ checkPost f c
   check-refused {n} q h =
       let e : checkFault f c ≡ n = or-stop (graphFault f) _ (λ z. h (q ∙ z)) ∙ sym q in
       sym (ap (λ (m : ℕ). verdictOf m (certHolds (graphIn f) c)) e ∙ rw (ne-eqb n 0 h))
 
-  pub check-judged : {ts hs : List ℕ} {p s k : ℕ} {v : Verdict} → GraphHeld f ts hs p s k → graphFault f ≡ 0 →
-      v ≡ certVerdict (graphOf p s (take k ts) (take k hs)) c → v ≡ checkPost f c
-  check-judged h z e =
-      e ∙ ap (λ (g : Graph). certVerdict g c) (held-graph h) ∙
-      ap (λ (m : ℕ). verdictOf m (certHolds (graphIn f) c)) (sym (or-go (graphFault f) _ z))
+  pub check-judged : {ts hs : List ℕ} {p s k : ℕ} {v : Verdict} → GraphTaken f ts hs p s k → v ≡ certVerdict (tableGraph p s (take k ts) (take k hs)) c →
+      v ≡ checkPost f c
+  check-judged T e =
+      e ∙ ap (λ (g : Graph). certVerdict g c) (held-graph (T .held)) ∙
+      ap (λ (m : ℕ). verdictOf m (certHolds (graphIn f) c)) (sym (or-go (graphFault f) _ (T .none)))

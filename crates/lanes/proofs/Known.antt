@@ -13,7 +13,7 @@ use Rattle.counting.specs.Tests.{all, any, among, noneTwice, upFrom, keep}
 use Rattle.counting.specs.Pairs.{secondsOf}
 use Rattle.frames.specs.Frames.{linesOf, endsWhole, hexFrom, hexBytes, laterFit, bodiesFit, pairsIn, numbersIn}
 use Rattle.frames.specs.EitherEnd.{returnsFrom}
-use Rattle.skew.specs.Graph.{matesFit, nodesAlong, isJoined, noMates, endOf, reachesFrom, largestOf, entriesInto, partOnce, partBy, leastOf, classesFrom}
+use Rattle.skew.specs.Graph.{arcsOf, matesFit, nodesAlong, isJoined, noMates, endOf, reachesFrom, largestOf, entriesInto, partOnce, partBy, leastOf, classesFrom}
 use Rattle.matching.specs.Stock.{hasPair, noneShared, withFirst, allPairings, mostOf, marksFrom, pairsRise, samePairs}
 use Rattle.matching.specs.Budget.{searchOneByOne}
 use Rattle.files.specs.StockFile.{markLines, planLines}
@@ -22,15 +22,15 @@ use Rattle.lanes.specs.Tallies.{afterCalls}
 use Rattle.lanes.specs.Known.{KnownFiles, KnownTexts, KnownEnds, KnownIsolated, KnownAnswers, KnownBudgets, KnownSelfArcs, KnownCallers}
 
 pub known-files : KnownFiles
-unfolding all any among noneTwice upFrom keep nodesAlong isJoined noMates endOf reachesFrom largestOf entriesInto partOnce partBy leastOf classesFrom hasPair noneShared pairsRise linesOf endsWhole hexFrom hexBytes laterFit bodiesFit pairsIn numbersIn matesFit classLines pathLines namesInOrder secondsOf
+unfolding all any among noneTwice upFrom keep nodesAlong isJoined noMates endOf reachesFrom largestOf entriesInto partOnce partBy leastOf classesFrom hasPair noneShared pairsRise linesOf endsWhole hexFrom hexBytes laterFit bodiesFit pairsIn arcsOf numbersIn matesFit classLines pathLines namesInOrder secondsOf
 known-files = (refl, refl, refl, refl, refl, refl, refl, refl, refl, refl, refl, refl, refl, refl, refl, refl, refl)
 
 pub known-texts : KnownTexts
-unfolding all any among noneTwice upFrom keep nodesAlong isJoined noMates endOf reachesFrom partOnce partBy leastOf classesFrom withFirst allPairings mostOf marksFrom linesOf hexFrom hexBytes pairsIn classLines markLines planLines
+unfolding all any among noneTwice upFrom keep nodesAlong isJoined noMates endOf reachesFrom partOnce partBy leastOf classesFrom withFirst allPairings mostOf marksFrom linesOf hexFrom hexBytes pairsIn arcsOf classLines markLines planLines
 known-texts = (refl, refl, refl, refl)
 
 pub known-ends : KnownEnds
-unfolding all any among noneTwice upFrom keep nodesAlong isJoined noMates endOf reachesFrom largestOf entriesInto partOnce partBy leastOf classesFrom hasPair noneShared pairsRise linesOf endsWhole hexFrom hexBytes laterFit bodiesFit pairsIn numbersIn matesFit classLines pathLines namesInOrder secondsOf returnsFrom
+unfolding all any among noneTwice upFrom keep nodesAlong isJoined noMates endOf reachesFrom largestOf entriesInto partOnce partBy leastOf classesFrom hasPair noneShared pairsRise linesOf endsWhole hexFrom hexBytes laterFit bodiesFit pairsIn arcsOf numbersIn matesFit classLines pathLines namesInOrder secondsOf returnsFrom
 known-ends = (refl, refl, refl, refl, refl, refl, refl, refl, refl, refl, refl, refl, refl, refl, refl, refl, refl, refl)
 
 pub known-isolated : KnownIsolated
@@ -67,9 +67,9 @@ known-budgets = (
 )
 
 pub known-self-arcs : KnownSelfArcs
-unfolding all upFrom linesOf endsWhole hexFrom hexBytes bodiesFit pairsIn matesFit largestOf
+unfolding all upFrom linesOf endsWhole hexFrom hexBytes bodiesFit pairsIn arcsOf matesFit largestOf
 known-self-arcs = (refl, refl, refl, refl, refl, refl, refl, refl, refl, refl, refl, refl, refl, refl)
 
 pub known-callers : KnownCallers
-unfolding all any among noneTwice upFrom keep sum nodesAlong isJoined noMates endOf reachesFrom largestOf entriesInto partOnce partBy leastOf classesFrom hasPair noneShared pairsRise linesOf endsWhole hexFrom hexBytes laterFit bodiesFit pairsIn matesFit afterCalls
+unfolding all any among noneTwice upFrom keep sum nodesAlong isJoined noMates endOf reachesFrom largestOf entriesInto partOnce partBy leastOf classesFrom hasPair noneShared pairsRise linesOf endsWhole hexFrom hexBytes laterFit bodiesFit pairsIn arcsOf matesFit afterCalls
 known-callers = (refl, refl, refl, refl, refl, refl, refl, refl, refl, refl, refl, refl, refl, refl, refl)

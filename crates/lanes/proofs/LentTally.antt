@@ -3,8 +3,9 @@
 --   Relation, By      what a call by value owes, of numbers, file, buffer, answer and buffer after; and that as its contract
 --   Saying, Clause    what the lent call says of numbers, file, buffer, tally, result, buffer after and tally after; and that as its contract
 --   Sayable           what the call by value owes, and the tally counted for the caller, are what is said
+--   SaysOwed, owed-said     what the three calls say: their result is owed, and the tally counts what they came to
 --   lent-meets        the lent call meets its contract, where the callee and `count` meet theirs
-use mathlib.Core.Path.{_≡_, refl}
+use mathlib.Core.Path.{_≡_, refl, ap, _∙_}
 use Prim.Native.Nat.{ℕ, suc}
 use mathlib.Core.List.{[], _∷_, List}
 use lib.ListN.{length}
@@ -18,7 +19,7 @@ use prog.Routine.{Routine}
 use prog.Wp.{Heap, noLocal, Calls, Loops, WpFn, Tables}
 use ghost.Atoms.{Atoms, sem}
 use contract.Lifetimes.{Lfts}
-use contract.Monad.{Fun, fact}
+use contract.Monad.{Fun, fact, factI}
 use types.Kit.{Given, ‵, raw, ⋆, _⊛_, some, later, _$_, _∵_, !, qed, by, move, keep, drop, use0, use1, use3, split, join, pick, fsplit, fjoin, feqL, suffices, frame, await, done}
 use types.Run.{look, init, forget, stop, from, load, and-then, no-more, returns, enter, alloc1, alloc0, params1, pass1, pass0, free1, free0}
 use types.Part.{look-in}
@@ -37,12 +38,12 @@ use denote.Triple.Entry.{onEntry}
 use denote.Triple.Spec.{Meets, tripleOf}
 use denote.Triple.Walked.{onExit, Stays, stay-none-slice, gave-slice, gave-ref, hasOf, walkOf, AllGo, goes-none-slice, goes-gave-slice, goes-gave-ref, Walks, ends-at, walked, walk-meets}
 use denote.Exit.{yes}
-use Rattle.lanes.specs.Tallies.{tallied}
+use Rattle.lanes.specs.Tallies.{tallied, Asked, call, outcomeOf, tallyAfter}
 use Rattle.lanes.specs.declared.Tally.{Tally}
 use Rattle.lanes.specs.declared.Outcome.{Outcome}
 use Rattle.lanes.proofs.Forms.{answer-ty, AnswerForm}
 use Rattle.lanes.proofs.Numbers.{Nums, Fits, slots, stays, all-go, nums, rest, put, spells, tells, vals, fits-of, are-rest, owns-rest, owns-put, outs-rest, last-rest, lasts-rest, seen-rest, last-put, fit-put, has-put, seen-put, past-is, rooms, alloc-all, free-all, cells-rooms, pass-all, found, read-all}
-use Rattle.lanes.proofs.LentBody.{lent, behind, Count, File, Out, tokens, Took, body-walk}
+use Rattle.lanes.proofs.LentBody.{lent, behind, Count, File, Out, tokens, Took, body-walk, fact-then}
 use Rattle.lanes.proofs.Tally as T
 use Rattle.lanes.proofs.tallies.count.Symbol.{name as #lanes·tallies·count}
 
@@ -109,6 +110,19 @@ module _ (ws : List Width) where
 abbrev pub Sayable : (more : List Width) {M : Type 1} (𝓤 : URA M) {X Y : Type 0} → (result : X → Y) (outcome : X → Outcome) → Relation (w32 ∷ more) X → Saying (w32 ∷ more) 𝓤 Y → Type 1
 Sayable more 𝓤 {X} {Y} result outcome Owes Says =
     (ns : Nums (w32 ∷ more)) (f o : List ℕ) (t : Tally) (r : X) (v : List ℕ) (t′ : Tally) → Owes ns f o r v → t′ ≡ tallied t (ns .0) (outcome r) → ent 𝓤 (emp 𝓤) (Says ns f o t (result r) v t′)
+
+module _ (more : List Width) {Y : Type 0} (Owed : Relation (w32 ∷ more) Y) (asked : Nums (w32 ∷ more) → Asked) where
+  abbrev After : Nums (w32 ∷ more) → (file buffer : List ℕ) → Tally → Tally → Type 0
+  After ns f o t t′ = t′ ≡ tallyAfter t (call (ns .0) (asked ns) f (length o))
+
+  abbrev pub SaysOwed : {M : Type 1} (𝓤 : URA M) → Saying (w32 ∷ more) 𝓤 Y
+  SaysOwed 𝓤 ns f o t r v t′ = sep 𝓤 (fact 𝓤 (Owed ns f o r v)) (fact 𝓤 (After ns f o t t′))
+
+  pub owed-said : {X : Type 0} (result : X → Y) (outcome : X → Outcome) (Owes : Relation (w32 ∷ more) X) →
+      ((ns : Nums (w32 ∷ more)) (f o : List ℕ) (r : X) (v : List ℕ) → Owes ns f o r v → Owed ns f o (result r) v × (outcome r ≡ outcomeOf (ns .0) (asked ns) f (length o))) →
+      {M : Type 1} (𝓤 : URA M) → Sayable more 𝓤 result outcome Owes (SaysOwed 𝓤)
+  owed-said result outcome Owes parts 𝓤 ns f o t r v t′ e d =
+      let p = parts ns f o r v e in fact-then 𝓤 _ _ (p .0) (factI 𝓤 (After ns f o t t′) (emp 𝓤) (d ∙ ap (tallied t (ns .0)) (p .1)))
 
 -- THE WALK
 module _ (more : List Width) (callee : Name) {R D : RattleType} (Owes : Relation (w32 ∷ more) (R .Denot)) {M : Type 1} (𝓤 : URA M) (H : Heap 𝓤) (A : Atoms 𝓤) (W : Given 𝓤 H A) (at-mem : Memory → SProp 𝓤) (run : Routine → Fun 𝓤)

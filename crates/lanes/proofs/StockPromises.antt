@@ -25,7 +25,7 @@ use Rattle.matching.proofs.Matchings.{list-named, list-count}
 use Rattle.matching.proofs.Greatest.{greatest-bound, greatest-pairing}
 use Rattle.matching.proofs.Marks.{same-mark-fit}
 use Rattle.matching.proofs.Promises.{well-formed-fits}
-use Rattle.pairing.proofs.Listed.{plan-pairing, plan-greatest}
+use Rattle.pairing.proofs.ListedPairs.{plan-pairing, plan-greatest}
 use Rattle.files.specs.StockFile.{stockIn, stockFault, sheetText, planText, planAndSheet}
 use Rattle.files.specs.Answers.{over}
 use Rattle.lanes.specs.Entry.{told, stockCallFault, sheetOfFile}

@@ -28,8 +28,8 @@ use lib.ListN.{length, drop}
 use Rattle.formats.specs.Kinds.{arcKind, budgetEnd, budgetKind, fitKind, graphEnd, graphKind, litKind, markKind, sheetEnd, sheetKind, stockEnd, stockKind}
 use Rattle.frames.specs.Frames.{orElse, frame4, frame6, frame8, frameOf4}
 use Rattle.frames.specs.EitherEnd.{withReturns}
-use Rattle.skew.specs.Graph.{isBarrier, canonical}
-use Rattle.counting.specs.Pairs.{Pair}
+use Rattle.skew.specs.Graph.{Arc, arc, isBarrier, canonical}
+use Rattle.counting.specs.Pairs.{Pair, pair}
 use Rattle.matching.specs.Stock.{Stock, isPlan}
 use Rattle.matching.specs.Budget.{gain, isBudgeted, searchOneByOne}
 use Rattle.files.specs.GraphFile.{graphIn, graphFault, basicGraphFault}
@@ -37,7 +37,7 @@ use Rattle.files.specs.StockFile.{stockIn, stockFault, planLines, planText, pla
 use Rattle.files.specs.CertificateFile.{pathText, barrierText}
 use Rattle.lanes.specs.Entry.{sheetOfFile, checkPost, answerFault, stockCallFault, mostFault, budgetFault, budgetTextOf}
 use Rattle.lanes.specs.Tallies.{Call, call, check, graph, stock, budget, outcomeOf, tallied, afterCalls}
-use Rattle.lanes.specs.Promise.{arc, graphOf, g4, g5}
+use Rattle.lanes.specs.Promise.{graphOf, g4, g5}
 use Rattle.lanes.specs.StockPromise.{sheetPlace, pairsRead}
 use Rattle.lanes.specs.CallerPromise.{ownCalls, totalOf, countedCalls, zeros}
 use Rattle.lanes.specs.declared.Counts.{Counts}
@@ -45,11 +45,11 @@ use Rattle.lanes.specs.declared.Tally.{Tally}
 use Rattle.lanes.specs.declared.Outcome.the-variants.{Path, Barrier}
 use Rattle.lanes.specs.declared.Verdict.the-variants.{Refused, Yes, No}
 
-abbrev pub arcLines : List Pair → List ℕ
+abbrev pub arcLines : List Arc → List ℕ
 arcLines [] = []
-arcLines (x ∷ xs) = frame6 arcKind (x .first) (x .second) ++ arcLines xs
+arcLines (x ∷ xs) = frame6 arcKind (x .tail) (x .head) ++ arcLines xs
 
-abbrev pub graphFileOf : (pairs : ℕ) → List Pair → List ℕ
+abbrev pub graphFileOf : (pairs : ℕ) → List Arc → List ℕ
 graphFileOf n xs = frame6 graphKind n 0 ++ arcLines xs ++ frameOf4 graphEnd (length xs)
 
 abbrev pub g1File : List ℕ
@@ -70,7 +70,7 @@ KnownFiles =
     (graphFault g1File ≡ 0) × (graphIn g1File ≡ graphOf 1 []) × (graphFault g4File ≡ 0) × (graphIn g4File ≡ graphOf 2 g4) ×
     (graphFault g5File ≡ 0) × (graphIn g5File ≡ graphOf 2 g5) × (graphFault [] ≡ 4) × (graphFault (frame6 graphKind 1 0) ≡ 6) ×
     (stockFault s5File ≡ 0) ×
-    (stockIn s5File ≡ record { cameras = 4; fits = arc 0 1 ∷ arc 1 2 ∷ arc 2 3 ∷ []; lit = arc 1 2 ∷ [] }) × (stockFault [] ≡ 4) ×
+    (stockIn s5File ≡ record { cameras = 4; fits = pair 0 1 ∷ pair 1 2 ∷ pair 2 3 ∷ []; lit = pair 1 2 ∷ [] }) × (stockFault [] ≡ 4) ×
     (checkPost g1File (barrierText (canonical (graphIn g1File))) ≡ Yes) × (checkPost g4File (pathText (0 ∷ 2 ∷ 1 ∷ [])) ≡ No) ×
     (checkPost g5File (pathText (0 ∷ 2 ∷ 5 ∷ [])) ≡ Yes) × (checkPost g5File (pathText []) ≡ No) × (checkPost g5File [] ≡ Refused 44) ×
     (checkPost [] g5File ≡ Refused 4)
@@ -81,10 +81,10 @@ KnownTexts =
     (barrierText (canonical (graphIn g1File)) ≡
     (51 ∷ 49 ∷ 10 ∷ 51 ∷ 50 ∷ 48 ∷ 48 ∷ 48 ∷ 49 ∷ 10 ∷ 51 ∷ 50 ∷ 48 ∷ 49 ∷ 48 ∷ 50 ∷ 10 ∷ 51 ∷ 70 ∷ 48 ∷ 48 ∷ 48 ∷ 50 ∷ 10 ∷ [])) ×
     (sheetText 0 [] ≡ (52 ∷ 49 ∷ 48 ∷ 48 ∷ 10 ∷ 52 ∷ 70 ∷ 48 ∷ 48 ∷ 48 ∷ 48 ∷ 10 ∷ [])) ×
-    (sheetText 3 (arc 0 1 ∷ arc 0 2 ∷ arc 1 2 ∷ []) ≡
+    (sheetText 3 (pair 0 1 ∷ pair 0 2 ∷ pair 1 2 ∷ []) ≡
     (52 ∷ 49 ∷ 48 ∷ 49 ∷ 10 ∷ 52 ∷ 51 ∷ 48 ∷ 48 ∷ 48 ∷ 48 ∷ 10 ∷ 52 ∷ 51 ∷ 48 ∷ 49 ∷ 48 ∷ 48 ∷ 10 ∷ 52 ∷ 51 ∷ 48 ∷ 50 ∷ 48 ∷ 48 ∷ 10 ∷
     52 ∷ 70 ∷ 48 ∷ 48 ∷ 48 ∷ 51 ∷ 10 ∷ [])) ×
-    (planText (arc 0 1 ∷ arc 2 3 ∷ []) ≡
+    (planText (pair 0 1 ∷ pair 2 3 ∷ []) ≡
     (53 ∷ 49 ∷ 48 ∷ 50 ∷ 10 ∷ 53 ∷ 50 ∷ 48 ∷ 48 ∷ 48 ∷ 49 ∷ 10 ∷ 53 ∷ 50 ∷ 48 ∷ 50 ∷ 48 ∷ 51 ∷ 10 ∷ 53 ∷ 70 ∷ 48 ∷ 48 ∷ 48 ∷ 50 ∷ 10 ∷ []))
 
 -- LINE ENDS (document 02, L1)
@@ -118,7 +118,7 @@ KnownEnds =
 -- CAMERAS WITHOUT A FIT (document 02, L2)
 -- 1 fits 2, 3 and 4, and 5 fits 6; 1 and 2 are lit; 0 and 7 fit nobody
 abbrev pub fourMarks : Stock
-fourMarks = record { cameras = 8; fits = arc 1 2 ∷ arc 1 3 ∷ arc 1 4 ∷ arc 5 6 ∷ []; lit = arc 1 2 ∷ [] }
+fourMarks = record { cameras = 8; fits = pair 1 2 ∷ pair 1 3 ∷ pair 1 4 ∷ pair 5 6 ∷ []; lit = pair 1 2 ∷ [] }
 
 abbrev pub fourMarksFile : List ℕ
 fourMarksFile =
@@ -129,27 +129,27 @@ fourMarksFile =
 abbrev pub KnownIsolated : Type 0
 KnownIsolated =
     (sheetText 1 [] ≡ (52 ∷ 49 ∷ 48 ∷ 48 ∷ 10 ∷ 52 ∷ 51 ∷ 48 ∷ 48 ∷ 48 ∷ 51 ∷ 10 ∷ 52 ∷ 70 ∷ 48 ∷ 48 ∷ 48 ∷ 49 ∷ 10 ∷ [])) ×
-    (sheetText 3 (arc 0 1 ∷ []) ≡
+    (sheetText 3 (pair 0 1 ∷ []) ≡
     (52 ∷ 49 ∷ 48 ∷ 49 ∷ 10 ∷ 52 ∷ 51 ∷ 48 ∷ 48 ∷ 48 ∷ 50 ∷ 10 ∷ 52 ∷ 51 ∷ 48 ∷ 49 ∷ 48 ∷ 50 ∷ 10 ∷ 52 ∷ 51 ∷ 48 ∷ 50 ∷ 48 ∷ 51 ∷ 10 ∷
     52 ∷ 70 ∷ 48 ∷ 48 ∷ 48 ∷ 51 ∷ 10 ∷ [])) ×
     (stockFault fourMarksFile ≡ 0) × (stockIn fourMarksFile ≡ fourMarks) ×
     (sheetOfFile fourMarksFile ≡
     frame4 sheetKind 2 ++ frame6 markKind 0 3 ++ frame6 markKind 1 1 ++ frame6 markKind 2 0 ++ frame6 markKind 3 0 ++ frame6 markKind 4 0 ++
     frame6 markKind 5 2 ++ frame6 markKind 6 2 ++ frame6 markKind 7 3 ++ frameOf4 sheetEnd 8) ×
-    (isPlan fourMarks (arc 1 2 ∷ arc 5 6 ∷ []) ≡ true)
+    (isPlan fourMarks (pair 1 2 ∷ pair 5 6 ∷ []) ≡ true)
 
 -- A PLAN AND THE SHEET BEHIND IT (document 02, L6)
 abbrev pub s5 : Stock
 s5 = stockIn s5File
 
 abbrev pub s5Plan : List Pair
-s5Plan = arc 0 1 ∷ arc 2 3 ∷ []
+s5Plan = pair 0 1 ∷ pair 2 3 ∷ []
 
 abbrev pub noCameras : Stock
 noCameras = record { cameras = 0; fits = []; lit = [] }
 
 abbrev pub triangleLit : (lit : List Pair) → Stock
-triangleLit ls = record { cameras = 3; fits = arc 0 1 ∷ arc 0 2 ∷ arc 1 2 ∷ []; lit = ls }
+triangleLit ls = record { cameras = 3; fits = pair 0 1 ∷ pair 0 2 ∷ pair 1 2 ∷ []; lit = ls }
 
 -- S1: 5100, 5F0000, 4100, 4F0000. S5: its plan, then 4102, 430002, 430102, 430202, 430302, 4F0004, from 26 on. S3, with 0 and 2 lit and with none: the plan
 -- keeps what is lit, and the sheet half is the same, from 19 on. Last, S5's plan read back
@@ -162,16 +162,16 @@ KnownAnswers =
     (53 ∷ 49 ∷ 48 ∷ 50 ∷ 10 ∷ 53 ∷ 50 ∷ 48 ∷ 48 ∷ 48 ∷ 49 ∷ 10 ∷ 53 ∷ 50 ∷ 48 ∷ 50 ∷ 48 ∷ 51 ∷ 10 ∷ 53 ∷ 70 ∷ 48 ∷ 48 ∷ 48 ∷
     50 ∷ 10 ∷ 52 ∷ 49 ∷ 48 ∷ 50 ∷ 10 ∷ 52 ∷ 51 ∷ 48 ∷ 48 ∷ 48 ∷ 50 ∷ 10 ∷ 52 ∷ 51 ∷ 48 ∷ 49 ∷ 48 ∷ 50 ∷ 10 ∷ 52 ∷ 51 ∷ 48 ∷
     50 ∷ 48 ∷ 50 ∷ 10 ∷ 52 ∷ 51 ∷ 48 ∷ 51 ∷ 48 ∷ 50 ∷ 10 ∷ 52 ∷ 70 ∷ 48 ∷ 48 ∷ 48 ∷ 52 ∷ 10 ∷ [])) ×
-    (isPlan (triangleLit (arc 0 2 ∷ [])) (arc 0 2 ∷ []) ≡ true) × (isPlan (triangleLit (arc 0 2 ∷ [])) (arc 0 1 ∷ []) ≡ false) ×
-    (isPlan (triangleLit []) (arc 0 1 ∷ []) ≡ true) × (sheetPlace (triangleLit [] .fits) ≡ 19) ×
-    (drop 19 (planAndSheet (triangleLit (arc 0 2 ∷ [])) (arc 0 2 ∷ [])) ≡ drop 19 (planAndSheet (triangleLit []) (arc 0 1 ∷ []))) ×
-    (drop 19 (planAndSheet (triangleLit []) (arc 0 1 ∷ [])) ≡
+    (isPlan (triangleLit (pair 0 2 ∷ [])) (pair 0 2 ∷ []) ≡ true) × (isPlan (triangleLit (pair 0 2 ∷ [])) (pair 0 1 ∷ []) ≡ false) ×
+    (isPlan (triangleLit []) (pair 0 1 ∷ []) ≡ true) × (sheetPlace (triangleLit [] .fits) ≡ 19) ×
+    (drop 19 (planAndSheet (triangleLit (pair 0 2 ∷ [])) (pair 0 2 ∷ [])) ≡ drop 19 (planAndSheet (triangleLit []) (pair 0 1 ∷ []))) ×
+    (drop 19 (planAndSheet (triangleLit []) (pair 0 1 ∷ [])) ≡
     frame4 sheetKind 1 ++ frame6 markKind 0 0 ++ frame6 markKind 1 0 ++ frame6 markKind 2 0 ++ frameOf4 sheetEnd 3) ×
     (pairsRead (planText s5Plan) ≡ s5Plan)
 
 -- A BUDGET OF SEARCHES (document 02, L4)
 abbrev pub oneFit : (cameras : ℕ) → Stock
-oneFit n = record { cameras = n; fits = arc 0 1 ∷ []; lit = [] }
+oneFit n = record { cameras = n; fits = pair 0 1 ∷ []; lit = [] }
 
 abbrev pub Budgets : Stock → (most : ℕ) → (pairs : List Pair) → (searches missing : ℕ) → Type 0
 Budgets s b ps k m =
@@ -181,12 +181,12 @@ Budgets s b ps k m =
 -- and the second tells. Among three, one camera is left over, and half of it is rounded down. No cameras. Then question 15
 abbrev pub KnownBudgets : Type 0
 KnownBudgets =
-    Budgets s5 0 (arc 1 2 ∷ []) 0 1 × Budgets s5 1 s5Plan 1 0 × Budgets s5 2 s5Plan 2 0 × Budgets s5 64 s5Plan 2 0 ×
-    (isBudgeted s5 1 (arc 1 2 ∷ []) ≡ false) × (isBudgeted s5 0 s5Plan ≡ false) ×
-    (budgetTextOf s5 0 (arc 1 2 ∷ []) ≡
+    Budgets s5 0 (pair 1 2 ∷ []) 0 1 × Budgets s5 1 s5Plan 1 0 × Budgets s5 2 s5Plan 2 0 × Budgets s5 64 s5Plan 2 0 ×
+    (isBudgeted s5 1 (pair 1 2 ∷ []) ≡ false) × (isBudgeted s5 0 s5Plan ≡ false) ×
+    (budgetTextOf s5 0 (pair 1 2 ∷ []) ≡
     (54 ∷ 49 ∷ 48 ∷ 49 ∷ 48 ∷ 48 ∷ 48 ∷ 49 ∷ 10 ∷ 53 ∷ 50 ∷ 48 ∷ 49 ∷ 48 ∷ 50 ∷ 10 ∷ 54 ∷ 70 ∷ 48 ∷ 48 ∷ 48 ∷ 49 ∷ 10 ∷ [])) ×
-    Budgets (oneFit 5) 0 [] 0 2 × Budgets (oneFit 5) 1 (arc 0 1 ∷ []) 1 1 × Budgets (oneFit 5) 2 (arc 0 1 ∷ []) 2 0 ×
-    Budgets (oneFit 3) 1 (arc 0 1 ∷ []) 1 0 × Budgets noCameras 0 [] 0 0 × Budgets noCameras 1 [] 1 0 × Budgets noCameras 64 [] 1 0 ×
+    Budgets (oneFit 5) 0 [] 0 2 × Budgets (oneFit 5) 1 (pair 0 1 ∷ []) 1 1 × Budgets (oneFit 5) 2 (pair 0 1 ∷ []) 2 0 ×
+    Budgets (oneFit 3) 1 (pair 0 1 ∷ []) 1 0 × Budgets noCameras 0 [] 0 0 × Budgets noCameras 1 [] 1 0 × Budgets noCameras 64 [] 1 0 ×
     (searchOneByOne 64 (gain s5) ≡ record { searches = 2; found = 1; none = true }) × (mostFault 64 ≡ 0) × (mostFault 65 ≡ 15) ×
     (budgetFault 0 65 s5File 0 ≡ 1) × (orElse (mostFault 65) (stockFault []) ≡ 15) × (orElse (mostFault 64) (stockFault []) ≡ 4)
 

@@ -20,7 +20,7 @@ use Prim.Native.Nat.{ℕ, _≤_, _<_}
 use lib.Dec.{eqb}
 use lib.ListN.{length}
 use Rattle.counting.specs.Pairs.{Pair, pair}
-use Rattle.skew.specs.Graph.{Graph, isRegular, isWanted, isReachable, hasPath, isBarrier, canonical}
+use Rattle.skew.specs.Graph.{Arc, arc, Graph, isRegular, isWanted, isReachable, hasPath, isBarrier, canonical}
 use Rattle.skew.specs.Promise.{SomePath}
 use Rattle.matching.specs.Promise.{HasFit, MarkMeans}
 use Rattle.matching.specs.Stock.{isPairing, greatest, pairingMark, markOf, marksOf, isPlan}
@@ -80,22 +80,19 @@ MarksKept =
     ((markOf (stockIn f .fits) u ≡ 2) ↔ (pairingMark (stockIn f .fits) u ≡ 2))
 
 -- THE MARKED SET
-abbrev pub arc : (tail head : ℕ) → Pair
-arc a b = pair a b
-
-abbrev pub graphOf : (pairs : ℕ) → List Pair → Graph
+abbrev pub graphOf : (pairs : ℕ) → List Arc → Graph
 graphOf n xs = record { pairs = n; source = 0; arcs = xs }
 
-abbrev pub g3 : List Pair
+abbrev pub g3 : List Arc
 g3 = arc 0 2 ∷ arc 3 1 ∷ []
 
-abbrev pub g4 : List Pair
+abbrev pub g4 : List Arc
 g4 = arc 0 2 ∷ arc 3 1 ∷ arc 2 3 ∷ arc 2 3 ∷ []
 
-abbrev pub g5 : List Pair
+abbrev pub g5 : List Arc
 g5 = arc 0 2 ∷ arc 3 1 ∷ arc 2 3 ∷ arc 2 3 ∷ arc 0 2 ∷ arc 3 1 ∷ []
 
-abbrev pub Barred : (pairs : ℕ) → List Pair → (classes : List ℕ) → Type 0
+abbrev pub Barred : (pairs : ℕ) → List Arc → (classes : List ℕ) → Type 0
 Barred n xs cs =
     (hasPath (graphOf n xs) ≡ false) × (canonical (graphOf n xs) ≡ cs) × (isBarrier (graphOf n xs) cs ≡ true)
 
@@ -103,16 +100,16 @@ abbrev pub StockGives : (cameras : ℕ) → (fits : List Pair) → (pairs : ℕ)
 StockGives n fs k ms = (greatest fs ≡ k) × (marksOf n fs ≡ ms)
 
 abbrev pub triangles : List Pair
-triangles = arc 0 1 ∷ arc 0 2 ∷ arc 1 2 ∷ arc 2 3 ∷ arc 3 4 ∷ arc 3 5 ∷ arc 4 5 ∷ []
+triangles = pair 0 1 ∷ pair 0 2 ∷ pair 1 2 ∷ pair 2 3 ∷ pair 3 4 ∷ pair 3 5 ∷ pair 4 5 ∷ []
 
 abbrev pub Marked : Type 0
 Marked =
     Barred 1 [] (1 ∷ 2 ∷ []) × (isWanted (graphOf 1 (arc 0 1 ∷ arc 0 1 ∷ [])) (0 ∷ []) ≡ true) ×
     (isWanted (graphOf 1 (arc 0 1 ∷ arc 0 1 ∷ [])) (1 ∷ []) ≡ true) × Barred 2 g3 (1 ∷ 2 ∷ 1 ∷ 2 ∷ []) ×
     Barred 2 g4 (1 ∷ 2 ∷ 3 ∷ 3 ∷ []) × (isRegular (graphOf 2 g4) (0 ∷ 2 ∷ 1 ∷ []) ≡ false) ×
-    (isWanted (graphOf 2 g5) (0 ∷ 2 ∷ 5 ∷ []) ≡ true) × StockGives 0 [] 0 [] × StockGives 2 (arc 0 1 ∷ []) 1 (2 ∷ 2 ∷ []) ×
-    StockGives 3 (arc 0 1 ∷ arc 0 2 ∷ arc 1 2 ∷ []) 1 (0 ∷ 0 ∷ 0 ∷ []) ×
-    StockGives 4 (arc 0 1 ∷ arc 0 2 ∷ arc 0 3 ∷ []) 1 (1 ∷ 0 ∷ 0 ∷ 0 ∷ []) ×
-    (isPlan (record { cameras = 4; fits = arc 0 1 ∷ arc 1 2 ∷ arc 2 3 ∷ []; lit = arc 1 2 ∷ [] }) (arc 0 1 ∷ arc 2 3 ∷ []) ≡ true) ×
-    StockGives 5 (arc 0 1 ∷ arc 0 4 ∷ arc 1 2 ∷ arc 2 3 ∷ arc 3 4 ∷ []) 2 (0 ∷ 0 ∷ 0 ∷ 0 ∷ 0 ∷ []) ×
+    (isWanted (graphOf 2 g5) (0 ∷ 2 ∷ 5 ∷ []) ≡ true) × StockGives 0 [] 0 [] × StockGives 2 (pair 0 1 ∷ []) 1 (2 ∷ 2 ∷ []) ×
+    StockGives 3 (pair 0 1 ∷ pair 0 2 ∷ pair 1 2 ∷ []) 1 (0 ∷ 0 ∷ 0 ∷ []) ×
+    StockGives 4 (pair 0 1 ∷ pair 0 2 ∷ pair 0 3 ∷ []) 1 (1 ∷ 0 ∷ 0 ∷ 0 ∷ []) ×
+    (isPlan (record { cameras = 4; fits = pair 0 1 ∷ pair 1 2 ∷ pair 2 3 ∷ []; lit = pair 1 2 ∷ [] }) (pair 0 1 ∷ pair 2 3 ∷ []) ≡ true) ×
+    StockGives 5 (pair 0 1 ∷ pair 0 4 ∷ pair 1 2 ∷ pair 2 3 ∷ pair 3 4 ∷ []) 2 (0 ∷ 0 ∷ 0 ∷ 0 ∷ 0 ∷ []) ×
     StockGives 6 triangles 3 (2 ∷ 2 ∷ 2 ∷ 2 ∷ 2 ∷ 2 ∷ [])

@@ -15,7 +15,7 @@ ghost use mathlib.Core.Path.{_≡_};
 ghost use Prim.Native.Nat.{_*_, _≤_};
 ghost use lib.ListN.{length};
 ghost use Rattle.formats.specs.Limits.{room};
-ghost use Rattle.arcs.specs.Table.{graphOf, ArcTable};
+ghost use Rattle.arcs.specs.Table.{tableGraph, ArcTable};
 ghost use Rattle.lanes.specs.GraphCalls.{GraphWritten, GraphAnswered};
 
 // A path, or the canonical barrier where there is none, at the front of the buffer; the search's tables are lent.
@@ -31,15 +31,15 @@ fn write_graph(
     requires { ⌜ ArcTable pairs source (now tails) (now heads) ⌝ }
     requires { ⌜ (length (now class) ≡ 2 * pairs) × (2 * pairs ≤ length (now path)) ⌝ }
     requires { ⌜ room ≤ length (now out) ⌝ }
-    ensures { λ r. ⌜ GraphWritten (graphOf pairs source (now (tails .entry)) (now (heads .entry))) (now (out .entry)) (now (out .exit)) r ⌝ }
+    ensures { λ r. ⌜ GraphWritten (tableGraph pairs source (now (tails .entry)) (now (heads .entry))) (now (out .entry)) (now (out .exit)) r ⌝ }
 {
     let found = path_or_barrier(pairs, source, tails, heads, class, path);
     match found {
-        search::answer::Answer::Path(count) => answered(
+        search::answer::Sought::Path(count) => answered(
             put_path(out, &path[..count]),
             Outcome::Path,
         ),
-        search::answer::Answer::NoPath => answered(put_barrier(out, class), Outcome::Barrier),
+        search::answer::Sought::NoPath => answered(put_barrier(out, class), Outcome::Barrier),
     }
 }
 

@@ -10,9 +10,10 @@ use frames::write::begins_barrier;
 use judging::barrier::is_barrier;
 use judging::path::is_wanted;
 ghost use mathlib.Core.Path.{_≡_};
-ghost use Prim.Native.Nat.{_+_, _≤_};
+ghost use Prim.Native.Nat.{ℕ, _+_, _≤_};
 ghost use Rattle.counting.specs.Tests.{pick};
-ghost use Rattle.arcs.specs.Table.{graphOf, ArcTable};
+ghost use Rattle.arcs.specs.Table.{tableGraph, ArcTable};
+ghost use Rattle.judging.specs.Walks.{ArcsLent};
 ghost use Rattle.lanes.specs.Verdicts.{pathVerdict, barrierVerdict, certVerdict};
 ghost use Rattle.lanes.specs.declared.Verdict.the-variants.{Refused, Yes, No};
 
@@ -31,9 +32,10 @@ fn judged(holds: bool) -> Verdict
     if holds { Verdict::Yes } else { Verdict::No }
 }
 
-fn judge_path(cert: &[u8], pairs: usize, source: usize, tails: &[u8], heads: &[u8]) -> Verdict
-    requires { ⌜ ArcTable pairs source (now tails) (now heads) ⌝ }
-    ensures { λ r. ⌜ r ≡ pathVerdict (graphOf pairs source (now (tails .entry)) (now (heads .entry))) (now (cert .entry)) ⌝ }
+// The number of mate pairs plays no part.
+fn judge_path(cert: &[u8], source: usize, tails: &[u8], heads: &[u8]) -> Verdict
+    requires { ⌜ ArcsLent source (now tails) (now heads) ⌝ }
+    ensures { λ r. ⌜ ((n : ℕ) → r ≡ pathVerdict (tableGraph n source (now (tails .entry)) (now (heads .entry))) (now (cert .entry))) ⌝ }
 {
     let mut arcs = [0u16; STEPS_MOST];
     let path = read_path(cert, &mut arcs, tails.len());
@@ -42,12 +44,12 @@ fn judge_path(cert: &[u8], pairs: usize, source: usize, tails: &[u8], heads: &[u
         return refused(number);
     }
     let count = path.count;
-    judged(is_wanted(pairs, source, tails, heads, &arcs[..count]))
+    judged(is_wanted(source, tails, heads, &arcs[..count]))
 }
 
 fn judge_barrier(cert: &[u8], pairs: usize, source: usize, tails: &[u8], heads: &[u8]) -> Verdict
     requires { ⌜ ArcTable pairs source (now tails) (now heads) ⌝ }
-    ensures { λ r. ⌜ r ≡ barrierVerdict (graphOf pairs source (now (tails .entry)) (now (heads .entry))) (now (cert .entry)) ⌝ }
+    ensures { λ r. ⌜ r ≡ barrierVerdict (tableGraph pairs source (now (tails .entry)) (now (heads .entry))) (now (cert .entry)) ⌝ }
 {
     let mut nodes = [0u8; 256];
     let mut classes = [0u8; 256];
@@ -63,10 +65,10 @@ fn judge_barrier(cert: &[u8], pairs: usize, source: usize, tails: &[u8], heads: 
 // A file that begins with the line 31 is read as a barrier, any other as a path.
 pub fn judge(cert: &[u8], pairs: usize, source: usize, tails: &[u8], heads: &[u8]) -> Verdict
     requires { ⌜ ArcTable pairs source (now tails) (now heads) ⌝ }
-    ensures { λ r. ⌜ r ≡ certVerdict (graphOf pairs source (now (tails .entry)) (now (heads .entry))) (now (cert .entry)) ⌝ }
+    ensures { λ r. ⌜ r ≡ certVerdict (tableGraph pairs source (now (tails .entry)) (now (heads .entry))) (now (cert .entry)) ⌝ }
 {
     if begins_barrier(cert) {
         return judge_barrier(cert, pairs, source, tails, heads);
     }
-    judge_path(cert, pairs, source, tails, heads)
+    judge_path(cert, source, tails, heads)
 }

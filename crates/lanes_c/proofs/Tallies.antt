@@ -1,5 +1,5 @@
 -- The sixteen counts that a call leaves.
---   counts-left    counts with an outcome counted, which is the one that the call comes to
+--   called         a call's result packed, and its outcome counted, which is the one that it comes to
 --   counts-stand   where each count stands
 --   counts-kept    sixteen counts and four sets are one and the same
 --   counts-follow  what a call leaves, for the next one to begin with
@@ -12,11 +12,13 @@ use Rattle.lanes.specs.Tallies.{tallied, outcomeOf, tallyAfter}
 use Rattle.lanes.proofs.CallerPromises.{calls-follow, calls-leave}
 use Rattle.lanes.specs.declared.Counts.{Counts}
 use Rattle.lanes.specs.declared.Outcome.{Outcome}
-use Rattle.lanes_c.specs.Exported.{tallyOf, allCounts, CountsStand, CountsKept, CountsFollow}
+use Rattle.lanes_c.specs.Exported.{tallyOf, allCounts, CountsStand, CountsKept, Called, CountsFollow}
 
-pub counts-left : (all : List ℕ) (caller : ℕ) {left : List ℕ} {came comes : Outcome} → left ≡ allCounts (tallied (tallyOf all) caller came) → came ≡ comes →
-    left ≡ allCounts (tallied (tallyOf all) caller comes)
-counts-left all caller p q = p ∙ ap (λ (w : Outcome). allCounts (tallied (tallyOf all) caller w)) q
+pub called : (all : List ℕ) (caller : ℕ) {Result : Type 0} (told : Result) {pack : Result → ℕ} {Owes : Result → List ℕ → Type 0} {result : ℕ} {after left : List ℕ}
+    {came comes : Outcome} → Owes told after → result ≡ pack told → left ≡ allCounts (tallied (tallyOf all) caller came) → came ≡ comes →
+    Called pack Owes (tallied (tallyOf all) caller comes) result after left
+called all caller told o r p q =
+    record { told = told; owes = o; returned = r; counted = p ∙ ap (λ (w : Outcome). allCounts (tallied (tallyOf all) caller w)) q }
 
 pub counts-stand : CountsStand
 counts-stand cs zero h = (refl, refl, refl, refl)

@@ -21,7 +21,7 @@ use Rattle.skew.specs.Paths.{tail, head, Joins, WellFormed}
 use Rattle.skew.proofs.Paths.{nodes-cons, regular-path}
 use Rattle.skew.proofs.AlongPaths.{PathTo, reachable-path, met-once}
 use Rattle.matching.specs.Matching.{FitsBelow, Fits, Matching, unlit}
-use Rattle.matching.specs.DoubledTable.{doubledTable, Arc, fromSource, toMate, litFit, otherFit}
+use Rattle.matching.specs.DoubledTable.{doubledTable, ArcKind, fromSource, toMate, litFit, otherFit}
 use Rattle.matching.specs.Rotation.{rotate, rotateAlong, Rotates, LeavesOver, Augments}
 use Rattle.matching.proofs.Matchings.{fits-low, matching-low}
 use Rattle.matching.proofs.Rotations.{rotate-third, rotate-other, rotate-matching, rotate-unlit, rotate-moves, rotate-gains}
@@ -70,7 +70,7 @@ module _ (n : ℕ) (fs : List Pair) (F : FitsBelow n fs) (p : ℕ → ℕ) (M : 
     out-of : (u i : ℕ) → u < n → i < length (g .arcs) → tail g i ≡ 2 * u → Out u i
     out-of u i l h e = go (arc-kind n fs F p M i h)
       where
-        go : Arc n fs p (arcAt g i) → Out u i
+        go : ArcKind n fs p (arcAt g i) → Out u i
         go (fromSource k a b c d) = absurd (omega arith)
         go (toMate k a b c d) = absurd (omega arith)
         go (litFit k a pl b c d) = absurd (omega arith)
@@ -84,7 +84,7 @@ module _ (n : ℕ) (fs : List Pair) (F : FitsBelow n fs) (p : ℕ → ℕ) (M : 
     on-from : (v j : ℕ) → j < length (g .arcs) → tail g j ≡ 2 * v + 1 → OnFrom v j
     on-from v j h e = go (arc-kind n fs F p M j h)
       where
-        go : Arc n fs p (arcAt g j) → OnFrom v j
+        go : ArcKind n fs p (arcAt g j) → OnFrom v j
         go (fromSource k a b c d) = absurd (omega arith)
         go (toMate k a b c d) = let z : k ≡ v = omega arith in inl (subst (λ (w : ℕ). p w ≡ w) z b, d)
         go (litFit k a pl b c d) =
@@ -96,7 +96,7 @@ module _ (n : ℕ) (fs : List Pair) (F : FitsBelow n fs) (p : ℕ → ℕ) (M : 
     no-further [] w e j = (refl, sym j ∙ e)
     no-further (i ∷ is) w e j = absurd (go (arc-kind n fs F p M i (j .0)) (j .1))
       where
-        go : Arc n fs p (arcAt g i) → tail g i ≡ w → ⊥
+        go : ArcKind n fs p (arcAt g i) → tail g i ≡ w → ⊥
         go (fromSource k a b c d) z = omega arith
         go (toMate k a b c d) z = omega arith
         go (litFit k a pl b c d) z = omega arith
@@ -187,7 +187,7 @@ module _ (n : ℕ) (fs : List Pair) (F : FitsBelow n fs) (p : ℕ → ℕ) (M : 
   unfolding nodesAlong
   begins t i is R = go (arc-kind n fs F p M i (R .joins .0)) (R .joins .1)
     where
-      go : Arc n fs p (arcAt g i) → tail g i ≡ 2 * n → (k : ℕ) × ((other : (v : ℕ) → v < n → t ≢ 2 * v + 1) → At t (i ∷ is) R other k is p)
+      go : ArcKind n fs p (arcAt g i) → tail g i ≡ 2 * n → (k : ℕ) × ((other : (v : ℕ) → v < n → t ≢ 2 * v + 1) → At t (i ∷ is) R other k is p)
       go (toMate k a b c d) z = absurd (omega arith)
       go (litFit k a pl b c d) z = absurd (omega arith)
       go (otherFit x y a b c d) z = absurd (omega (arith, fits-low n fs F x y a .0))

@@ -19,7 +19,7 @@ use Rattle.skew.proofs.AlongPaths.{last-arc}
 use Rattle.skew.proofs.Classes.{fit-from-A, fit-from-X}
 use Rattle.skew.proofs.Entries.{canonical-barrier-of, both, outer, inner, none}
 use Rattle.matching.specs.Matching.{FitsBelow, Fits, Matching}
-use Rattle.matching.specs.DoubledTable.{doubledTable, Arc, fromSource, toMate, litFit, otherFit, isOuter, isInner}
+use Rattle.matching.specs.DoubledTable.{doubledTable, ArcKind, fromSource, toMate, litFit, otherFit, isOuter, isInner}
 use Rattle.matching.specs.Certificate.{Certificate}
 use Rattle.matching.proofs.Matchings.{fits-low, matching-low}
 use Rattle.matching.proofs.DoubledTable.{mate-even, mate-odd, arc-kind, source-arc, lit-arc, other-arc, table-well-formed}
@@ -58,7 +58,7 @@ module _ (n : ℕ) (fs : List Pair) (F : FitsBelow n fs) (p : ℕ → ℕ) (M : 
   from-partner : (k i : ℕ) → i < length (g .arcs) → p k ≢ k → head g i ≡ 2 * k → tail g i ≡ 2 * p k + 1
   from-partner k i h ne e = go (arc-kind n fs F p M i h)
     where
-      go : Arc n fs p (arcAt g i) → tail g i ≡ 2 * p k + 1
+      go : ArcKind n fs p (arcAt g i) → tail g i ≡ 2 * p k + 1
       go (fromSource r l q a b) = let w : r ≡ k = omega arith in absurd (ne (ap p (sym w) ∙ q ∙ w))
       go (toMate r l q a b) = absurd (omega arith)
       go (litFit r l pl q a b) = let w : p r ≡ k = omega arith in let x : r ≡ p k = sym (M .back r) ∙ ap p w in omega arith

@@ -23,7 +23,7 @@ use Rattle.skew.proofs.Paths.{joins-end, arc-ends}
 use Rattle.skew.proofs.AlongPaths.{reachable-path, met-once}
 use Rattle.skew.proofs.Entries.{canonical-barrier-of, Classes, both, outer, inner, none, classes-of, Entry, entry-one, findEntry, find-entry, path-entry}
 use Rattle.matching.specs.Matching.{FitsBelow, Matching}
-use Rattle.matching.specs.DoubledTable.{doubledTable, Arc, fromSource, toMate, litFit, otherFit}
+use Rattle.matching.specs.DoubledTable.{doubledTable, ArcKind, fromSource, toMate, litFit, otherFit}
 use Rattle.matching.proofs.DoubledTable.{mate-even, arc-kind, table-well-formed}
 use Rattle.matching.proofs.OneArcIn.{one-arc-in}
 
@@ -108,7 +108,7 @@ module _ (n : ℕ) (fs : List Pair) (F : FitsBelow n fs) (p : ℕ → ℕ) (M : 
       let r = path-entry g W no-path (2 * k) (P .0) (P .1) h in
       go (r .0) (r .2) (arc-kind n fs F p M (r .0) (r .2 .is-arc))
     where
-      go : (i : ℕ) → EntryTo i (class (2 * k)) → Arc n fs p (arcAt g i) → Entered k
+      go : (i : ℕ) → EntryTo i (class (2 * k)) → ArcKind n fs p (arcAt g i) → Entered k
       go i E (fromSource r l q a b) = record { arc = i; camera = r; low = l; entry = E; leads = b }
       go i E (toMate r l q a b) = absurd (no-odd-entry i (class (2 * k)) n E b)
       go i E (litFit r l pl q a b) = record { arc = i; camera = p r; low = pl; entry = E; leads = b }

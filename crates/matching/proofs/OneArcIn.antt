@@ -1,5 +1,5 @@
 -- Only one arc of the doubled table, by number, leads into a node 2k: from the source if k is unlit, else from its partner.
---   None f xs, AtMostOne f xs                     none of the pairs passes a test; at most one, by number, does
+--   None f xs, AtMostOne f xs                     none of the arcs passes a test; at most one, by number, does
 --   none-at, one-at, none-one                     the same by index; where none does, at most one does
 --   enters x                                      the arc leads into 2k
 --   Writes j                                      such an arc is written in the turn of camera j, the smaller of k and its partner
@@ -19,37 +19,37 @@ use lib.ListN.{length, getD}
 use borrow.Author.Tests.{eqb-true, eq-eqb, ne-eqb}
 use Rattle.counting.specs.Tests.{below}
 use Rattle.counting.specs.Lists.{In, Distinct}
-use Rattle.counting.specs.Pairs.{Pair, noPair}
+use Rattle.counting.specs.Pairs.{Pair}
 use Rattle.counting.proofs.Booleans.{by-test, true-false}
 use Rattle.counting.proofs.Range.{distinct-up}
-use Rattle.skew.specs.Graph.{Graph}
+use Rattle.skew.specs.Graph.{Arc, noArc, Graph}
 use Rattle.skew.specs.Paths.{head}
 use Rattle.matching.specs.Matching.{Matching}
 use Rattle.matching.specs.DoubledTable.{cameraArcs, fitArcs, doubledTable}
 use Rattle.matching.proofs.DoubledTable.{by-camera}
 
-abbrev None : (Pair → Bool) → List Pair → Type 0
+abbrev None : (Arc → Bool) → List Arc → Type 0
 None f [] = Unit {0}
 None f (x ∷ xs) = (f x ≡ false) × None f xs
 
-abbrev AtMostOne : (Pair → Bool) → List Pair → Type 0
+abbrev AtMostOne : (Arc → Bool) → List Arc → Type 0
 AtMostOne f [] = Unit {0}
 AtMostOne f (x ∷ xs) = (f x ≡ true → None f xs) × AtMostOne f xs
 
-none-at : (f : Pair → Bool) (xs : List Pair) → None f xs → (i : ℕ) → i < length xs → f (getD xs i noPair) ≡ true → ⊥
+none-at : (f : Arc → Bool) (xs : List Arc) → None f xs → (i : ℕ) → i < length xs → f (getD xs i noArc) ≡ true → ⊥
 none-at f [] o i h e = omega arith
 none-at f (x ∷ xs) o zero h e = true-false e (o .0)
 none-at f (x ∷ xs) o (suc i) h e = none-at f xs (o .1) i (omega arith) e
 
-one-at : (f : Pair → Bool) (xs : List Pair) → AtMostOne f xs → (i j : ℕ) → i < length xs → j < length xs →
-    f (getD xs i noPair) ≡ true → f (getD xs j noPair) ≡ true → i ≡ j
+one-at : (f : Arc → Bool) (xs : List Arc) → AtMostOne f xs → (i j : ℕ) → i < length xs → j < length xs →
+    f (getD xs i noArc) ≡ true → f (getD xs j noArc) ≡ true → i ≡ j
 one-at f [] o i j h k d e = absurd (omega arith)
 one-at f (x ∷ xs) o zero zero h k d e = refl
 one-at f (x ∷ xs) o zero (suc j) h k d e = absurd (none-at f xs (o .0 d) j (omega arith) e)
 one-at f (x ∷ xs) o (suc i) zero h k d e = absurd (none-at f xs (o .0 e) i (omega arith) d)
 one-at f (x ∷ xs) o (suc i) (suc j) h k d e = ap suc (one-at f xs (o .1) i j (omega arith) (omega arith) d e)
 
-none-one : (f : Pair → Bool) (xs : List Pair) → None f xs → AtMostOne f xs
+none-one : (f : Arc → Bool) (xs : List Arc) → None f xs → AtMostOne f xs
 none-one f [] o = tt
 none-one f (x ∷ xs) o = (λ e. o .1, none-one f xs (o .1))
 
@@ -57,8 +57,8 @@ module _ (n : ℕ) (fs : List Pair) (p : ℕ → ℕ) (M : Matching fs p) (k : �
   abbrev g : Graph
   g = doubledTable n fs p
 
-  abbrev enters : Pair → Bool
-  enters x = eqb (x .second) (2 * k)
+  abbrev enters : Arc → Bool
+  enters x = eqb (x .head) (2 * k)
 
   -- the camera in whose turn the arc is written: the smaller of k and its partner
   abbrev Writes : ℕ → Type 0
@@ -87,7 +87,7 @@ module _ (n : ℕ) (fs : List Pair) (p : ℕ → ℕ) (M : Matching fs p) (k : �
       by-test (eqb (p (x .first)) (x .second)) (λ t. rw t (fit-none xs))
       (λ t. rw t (ne-eqb (2 * x .second + 1) (2 * k) (λ z. omega arith), (ne-eqb (2 * x .first + 1) (2 * k) (λ z. omega arith), fit-none xs)))
 
-  camera-none : (ks : List ℕ) (rest : List Pair) → ((j : ℕ) → In j ks → Writes j → ⊥) → None enters rest → None enters (cameraArcs n p ks rest)
+  camera-none : (ks : List ℕ) (rest : List Arc) → ((j : ℕ) → In j ks → Writes j → ⊥) → None enters rest → None enters (cameraArcs n p ks rest)
   unfolding cameraArcs
   camera-none [] rest h o = o
   camera-none (j ∷ ks) rest h o =
@@ -99,7 +99,7 @@ module _ (n : ℕ) (fs : List Pair) (p : ℕ → ℕ) (M : Matching fs p) (k : �
       rw (t, s) (ne-eqb (2 * p j) (2 * k) (λ z. out (writes-partner j q z)), (ne-eqb (2 * j) (2 * k) (λ z. out (writes-self j q z)), ih)))
       (λ q t s. rw (t, s) ih)
 
-  camera-one : (ks : List ℕ) (rest : List Pair) → Distinct ks → None enters rest → AtMostOne enters (cameraArcs n p ks rest)
+  camera-one : (ks : List ℕ) (rest : List Arc) → Distinct ks → None enters rest → AtMostOne enters (cameraArcs n p ks rest)
   unfolding cameraArcs
   camera-one [] rest d o = none-one enters rest o
   camera-one (j ∷ ks) rest d o =

@@ -30,13 +30,13 @@ well-formed-fits s w =
     }
 
 pub well-formed-lit : (s : Stock) → WellFormedStock s → isPairing (s .fits) (s .lit) ≡ true
-well-formed-lit s w = and-both (all (hasPair (s .fits)) (s .lit)) (noneShared (s .lit)) (w .litFits) (w .litApart)
+well-formed-lit s w = and-both (all (hasPair (s .fits)) (s .lit)) (noneShared (s .lit)) (w .lit-fits) (w .lit-apart)
 
 pub greatest-is : GreatestIs
 greatest-is s ps w = (
   greatest-bound (s .cameras) (s .fits) (well-formed-fits s w) ps,
   greatest-pairing (s .fits),
-  some-plan s (well-formed-fits s w) (well-formed-lit s w) (w .litRising),
+  some-plan s (well-formed-fits s w) (well-formed-lit s w) (w .lit-rising),
 )
 
 pub marks-are : MarksAre
@@ -56,7 +56,7 @@ budget-plans s b ps w more = (
 )
 
 pub some-budgeted : SomeBudgeted
-some-budgeted s b w = budgeted-some s (well-formed-fits s w) (well-formed-lit s w) (w .litRising) b
+some-budgeted s b w = budgeted-some s (well-formed-fits s w) (well-formed-lit s w) (w .lit-rising) b
 
 pub budgets-add : BudgetsAdd
 budgets-add s b c ps qs w = plans.budgets-add s (well-formed-fits s w) (well-formed-lit s w) b c ps qs

@@ -4,7 +4,7 @@
 --   arcsOfFit u v w            a fit of u, whose partner is w, and v: both ways round, nothing if it is lit
 --   cameraArcs, fitArcs        the arcs of every camera and of every fit
 --   doubledTable n fs p        the graph
---   Arc n fs p x               x is an arc of one of the four kinds
+--   ArcKind n fs p x           the arc x is of one of the four kinds
 --   ArcBetween g v w           some arc of g goes from v to w
 --   isOuter, isInner           camera k with 2k reachable; with 2k+1 reachable and 2k not
 --   reachedMark f k            read off the reachable nodes: 0 where 2k is reached, 1 where only 2k+1 is, else 2
@@ -17,35 +17,35 @@ use Prim.Native.Nat.{ℕ, suc, _+_, _*_, _<_}
 use lib.Dec.{ltb, eqb}
 use lib.ListN.{length}
 use Rattle.counting.specs.Tests.{pick, below}
-use Rattle.counting.specs.Pairs.{Pair, pair}
-use Rattle.skew.specs.Graph.{Graph, isReachable}
+use Rattle.counting.specs.Pairs.{Pair}
+use Rattle.skew.specs.Graph.{Arc, arc, Graph, isReachable}
 use Rattle.skew.specs.Paths.{tail, head}
 use Rattle.matching.specs.Matching.{Fits}
 
-abbrev pub arcsOfCamera : (cameras camera partner : ℕ) → List Pair
+abbrev pub arcsOfCamera : (cameras camera partner : ℕ) → List Arc
 arcsOfCamera n k w =
-    pick (eqb w k) (pair (2 * n) (2 * k) ∷ pair (2 * k + 1) (2 * n + 1) ∷ [])
-    (pick (ltb k w) (pair (2 * k + 1) (2 * w) ∷ pair (2 * w + 1) (2 * k) ∷ []) [])
+    pick (eqb w k) (arc (2 * n) (2 * k) ∷ arc (2 * k + 1) (2 * n + 1) ∷ [])
+    (pick (ltb k w) (arc (2 * k + 1) (2 * w) ∷ arc (2 * w + 1) (2 * k) ∷ []) [])
 
-unfoldable pub cameraArcs : (cameras : ℕ) → (partner : ℕ → ℕ) → List ℕ → (rest : List Pair) → List Pair
+unfoldable pub cameraArcs : (cameras : ℕ) → (partner : ℕ → ℕ) → List ℕ → (rest : List Arc) → List Arc
 cameraArcs n p [] rest = rest
 cameraArcs n p (k ∷ ks) rest = arcsOfCamera n k (p k) ++ cameraArcs n p ks rest
 
-abbrev pub arcsOfFit : (one other partner : ℕ) → List Pair
-arcsOfFit u v w = pick (eqb w v) [] (pair (2 * u) (2 * v + 1) ∷ pair (2 * v) (2 * u + 1) ∷ [])
+abbrev pub arcsOfFit : (one other partner : ℕ) → List Arc
+arcsOfFit u v w = pick (eqb w v) [] (arc (2 * u) (2 * v + 1) ∷ arc (2 * v) (2 * u + 1) ∷ [])
 
-unfoldable pub fitArcs : (partner : ℕ → ℕ) → (fits : List Pair) → List Pair
+unfoldable pub fitArcs : (partner : ℕ → ℕ) → (fits : List Pair) → List Arc
 fitArcs p [] = []
 fitArcs p (x ∷ xs) = arcsOfFit (x .first) (x .second) (p (x .first)) ++ fitArcs p xs
 
 abbrev pub doubledTable : (cameras : ℕ) → (fits : List Pair) → (partner : ℕ → ℕ) → Graph
 doubledTable n fs p = record { pairs = suc n; source = 2 * n; arcs = cameraArcs n p (below n) (fitArcs p fs) }
 
-pub data Arc (n : ℕ) (fs : List Pair) (p : ℕ → ℕ) (x : Pair) : Type 0 where
-  fromSource : (k : ℕ) → k < n → p k ≡ k → x .first ≡ 2 * n → x .second ≡ 2 * k → Arc n fs p x
-  toMate : (k : ℕ) → k < n → p k ≡ k → x .first ≡ 2 * k + 1 → x .second ≡ 2 * n + 1 → Arc n fs p x
-  litFit : (k : ℕ) → k < n → p k < n → p k ≢ k → x .first ≡ 2 * k + 1 → x .second ≡ 2 * p k → Arc n fs p x
-  otherFit : (u v : ℕ) → Fits fs u v → p u ≢ v → x .first ≡ 2 * u → x .second ≡ 2 * v + 1 → Arc n fs p x
+pub data ArcKind (n : ℕ) (fs : List Pair) (p : ℕ → ℕ) (x : Arc) : Type 0 where
+  fromSource : (k : ℕ) → k < n → p k ≡ k → x .tail ≡ 2 * n → x .head ≡ 2 * k → ArcKind n fs p x
+  toMate : (k : ℕ) → k < n → p k ≡ k → x .tail ≡ 2 * k + 1 → x .head ≡ 2 * n + 1 → ArcKind n fs p x
+  litFit : (k : ℕ) → k < n → p k < n → p k ≢ k → x .tail ≡ 2 * k + 1 → x .head ≡ 2 * p k → ArcKind n fs p x
+  otherFit : (u v : ℕ) → Fits fs u v → p u ≢ v → x .tail ≡ 2 * u → x .head ≡ 2 * v + 1 → ArcKind n fs p x
 
 abbrev pub ArcBetween : Graph → ℕ → ℕ → Type 0
 ArcBetween g v w = (i : ℕ) × (i < length (g .arcs)) × (tail g i ≡ v) × (head g i ≡ w)

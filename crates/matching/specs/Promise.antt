@@ -22,9 +22,9 @@ use Rattle.matching.specs.Stock.{Stock, hasPair, noneShared, isIncluded,
 pub record WellFormedStock (s : Stock) : Type 0 where
   pub named : all (pairNamed (s .cameras)) (s .fits) ≡ true
   pub rising : pairsRise (s .fits) ≡ true
-  pub litRising : pairsRise (s .lit) ≡ true
-  pub litFits : all (hasPair (s .fits)) (s .lit) ≡ true
-  pub litApart : noneShared (s .lit) ≡ true
+  pub lit-rising : pairsRise (s .lit) ≡ true
+  pub lit-fits : all (hasPair (s .fits)) (s .lit) ≡ true
+  pub lit-apart : noneShared (s .lit) ≡ true
 
 abbrev pub GreatestIs : Type 0
 GreatestIs =

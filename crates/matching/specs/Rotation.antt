@@ -32,11 +32,11 @@ pub record Augments (n : ℕ) (fs : List Pair) (p q : ℕ → ℕ) : Type 0 wher
 unfoldable pub rotateAlong : Graph → (arcs : List ℕ) → (partner : ℕ → ℕ) → ℕ → ℕ
 rotateAlong g [] q = q
 rotateAlong g (i ∷ []) q = q
-rotateAlong g (i ∷ j ∷ rest) q = rotateAlong g rest (rotate q (arcAt g i .first / 2) (arcAt g i .second / 2))
+rotateAlong g (i ∷ j ∷ rest) q = rotateAlong g rest (rotate q (arcAt g i .tail / 2) (arcAt g i .head / 2))
 
 abbrev pub Rotates : (cameras : ℕ) → Graph → (arcs : List ℕ) → (partner : ℕ → ℕ) → Type 0
 Rotates n g [] q = Unit {0}
 Rotates n g (i ∷ []) q = Unit {0}
 Rotates n g (i ∷ j ∷ rest) q =
-    (i < length (g .arcs)) × (arcAt g i .first / 2 < n) × (arcAt g i .second / 2 < n) × (q (arcAt g i .second / 2) < n) ×
-    (arcAt g i .first / 2 ≢ arcAt g i .second / 2) × Rotates n g rest (rotate q (arcAt g i .first / 2) (arcAt g i .second / 2))
+    (i < length (g .arcs)) × (arcAt g i .tail / 2 < n) × (arcAt g i .head / 2 < n) × (q (arcAt g i .head / 2) < n) ×
+    (arcAt g i .tail / 2 ≢ arcAt g i .head / 2) × Rotates n g rest (rotate q (arcAt g i .tail / 2) (arcAt g i .head / 2))

@@ -2,21 +2,28 @@
 --   stockOf n firsts seconds litFirsts litSeconds     the stock of n cameras with these fits and lit pairs
 --   PairTable n firsts seconds                        as many seconds as firsts, all cameras below n
 --   FitTable n firsts seconds                         what the questions put to a stock settle of its cameras and fits
---   PairsWritten xs ys at xs′ ys′ r ps                the pairs ps stand in the tables from `at` on, r is the place behind them, all else is as before
---   WritingPairs                                      so far so many are written; with those left they are the whole
---   camerasLeft, fitsLeft                             the arcs of the cameras from k on, of the fits from i on
---   Doubled row fs ts hs ts′ hs′ r                    the doubled table of the row stands in front, r arcs, all else is as before
+--   PairedFits row firsts seconds                     the row pairs cameras by such fits
+--   PairsWritten firsts₀ seconds₀ at firsts′ seconds′ next pairs     the pairs stand in the tables from `at` on, `next` is the place behind them,
+--                                                     all else is as before
+--   WritingPairs pairsFor each items firsts₀ seconds₀ at firsts′ seconds′ next i     the pairs for the items before place i are written, at most so many each
+--   asPairs arcs                                      arcs as the pairs of numbers that are written, tail and head
+--   arcsOfCameras row cameras, arcsOfFits row fits    the arcs that the row gives these cameras, and these fits, as such pairs
+--   FlagsSet fits flags₀ flags i                      the flags of the fits before place i are set: with those of the others, all are
+--   Doubled row fits tails₀ heads₀ tails′ heads′ next     the doubled table of the row stands in front, all else is as before
 use mathlib.Core.Path.{_≡_}
-use mathlib.Core.List.{List, [], _++_}
-use Prim.Native.Nat.{ℕ, _+_, _-_, _≤_, _<_}
+use mathlib.Core.Bool.{_||_}
+use mathlib.Core.List.{List, [], _∷_}
+use Prim.Native.Nat.{ℕ, _+_, _*_, _≤_, _<_}
 use lib.ListN.{length, getD, drop}
 use lib.Seq.{sets}
 use Rattle.formats.specs.Limits.{arcsMost, camerasMost, fitsMost}
-use Rattle.counting.specs.Tests.{upFrom}
-use Rattle.counting.specs.Pairs.{Pair, firstsOf, secondsOf, zipPairs}
-use Rattle.matching.specs.Stock.{Stock}
-use Rattle.matching.specs.Matching.{FitsBelow}
+use Rattle.counting.specs.Pairs.{Pair, pair, firstsOf, secondsOf, zipPairs}
+use Rattle.counting.specs.Loops.{Storing}
+use Rattle.skew.specs.Graph.{Arc}
+use Rattle.matching.specs.Stock.{Stock, isIncluded}
+use Rattle.matching.specs.Matching.{FitsBelow, Matching}
 use Rattle.matching.specs.Row.{partnerIn}
+use Rattle.matching.specs.Flags.{isFlagged}
 use Rattle.matching.specs.DoubledTable.{cameraArcs, fitArcs, doubledTable}
 
 abbrev pub stockOf : (cameras : ℕ) → (firsts seconds litFirsts litSeconds : List ℕ) → Stock
@@ -34,25 +41,36 @@ pub record FitTable (n : ℕ) (firsts seconds : List ℕ) : Type 0 where
   pub fits-few : length firsts ≤ fitsMost
   pub fits : FitsBelow n (zipPairs firsts seconds)
 
-pub record PairsWritten (xs ys : List ℕ) (at : ℕ) (xs′ ys′ : List ℕ) (r : ℕ) (ps : List Pair) : Type 0 where
-  pub firsts : xs′ ≡ sets xs at (firstsOf ps)
-  pub seconds : ys′ ≡ sets ys at (secondsOf ps)
-  pub count : r ≡ at + length ps
+pub record PairedFits (row firsts seconds : List ℕ) : Type 0 where
+  pub table : FitTable (length row) firsts seconds
+  pub matching : Matching (zipPairs firsts seconds) (partnerIn row)
 
-pub record WritingPairs (xs ys : List ℕ) (at : ℕ) (xs′ ys′ : List ℕ) (r : ℕ) (left whole : List Pair) (most : ℕ) : Type 0 where
-  pub done : List Pair
-  pub written : PairsWritten xs ys at xs′ ys′ r done
-  pub parts : done ++ left ≡ whole
-  pub bound : r ≤ most
+pub record PairsWritten (firsts₀ seconds₀ : List ℕ) (at : ℕ) (firsts′ seconds′ : List ℕ) (next : ℕ) (pairs : List Pair) : Type 0 where
+  pub firsts : firsts′ ≡ sets firsts₀ at (firstsOf pairs)
+  pub seconds : seconds′ ≡ sets seconds₀ at (secondsOf pairs)
+  pub count : next ≡ at + length pairs
 
-abbrev pub camerasLeft : (row : List ℕ) → (camera : ℕ) → List Pair
-camerasLeft row k = cameraArcs (length row) (partnerIn row) (upFrom k (length row - k)) []
+pub record WritingPairs {A : Type 0} (pairsFor : List A → List Pair) (each : ℕ) (items : List A) (firsts₀ seconds₀ : List ℕ) (at : ℕ) (firsts′ seconds′ : List ℕ) (next i : ℕ) : Type 0 where
+  pub firsts : Storing firsts₀ at (firstsOf (pairsFor items)) firsts′ next (firstsOf (pairsFor (drop i items)))
+  pub seconds : Storing seconds₀ at (secondsOf (pairsFor items)) seconds′ next (secondsOf (pairsFor (drop i items)))
+  pub bound : next ≤ at + each * i
 
-abbrev pub fitsLeft : (row firsts seconds : List ℕ) → (fit : ℕ) → List Pair
-fitsLeft row firsts seconds i = fitArcs (partnerIn row) (drop i (zipPairs firsts seconds))
+abbrev pub asPairs : List Arc → List Pair
+asPairs [] = []
+asPairs (x ∷ xs) = pair (x .tail) (x .head) ∷ asPairs xs
 
-pub record Doubled (row : List ℕ) (fs : List Pair) (ts hs ts′ hs′ : List ℕ) (r : ℕ) : Type 0 where
-  pub written : PairsWritten ts hs 0 ts′ hs′ r (doubledTable (length row) fs (partnerIn row) .arcs)
-  pub tails : r ≤ length ts′
-  pub heads : r ≤ length hs′
-  pub few : r ≤ arcsMost
+abbrev pub arcsOfCameras : (row cameras : List ℕ) → List Pair
+arcsOfCameras row ks = asPairs (cameraArcs (length row) (partnerIn row) ks [])
+
+abbrev pub arcsOfFits : (row : List ℕ) → (fits : List Pair) → List Pair
+arcsOfFits row fits = asPairs (fitArcs (partnerIn row) fits)
+
+pub record FlagsSet (fits : List Pair) (flags₀ flags : List ℕ) (i : ℕ) : Type 0 where
+  pub long : length flags ≡ length flags₀
+  pub tells : (u : ℕ) → (isFlagged flags₀ u || isIncluded fits u) ≡ (isFlagged flags u || isIncluded (drop i fits) u)
+
+pub record Doubled (row : List ℕ) (fits : List Pair) (tails₀ heads₀ tails′ heads′ : List ℕ) (next : ℕ) : Type 0 where
+  pub written : PairsWritten tails₀ heads₀ 0 tails′ heads′ next (asPairs (doubledTable (length row) fits (partnerIn row) .arcs))
+  pub tails : next ≤ length tails′
+  pub heads : next ≤ length heads′
+  pub few : next ≤ arcsMost

@@ -23,7 +23,7 @@ fn flag_fits(flags: &mut [u8], firsts: &[u8], seconds: &[u8])
     ensures { λ r. ⌜ ((u : ℕ) → isFlagged (now (flags .exit)) u ≡ (isFlagged (now (flags .entry)) u || isIncluded (zipPairs (now (firsts .entry)) (now (seconds .entry))) u)) ⌝ }
 {
     let mut i: usize = 0;
-    // invariant: the flags set and those of the fits from i on are all; falls: fits left
+    // invariant: specs/Table FlagsSet; falls: fits left
     while i < firsts.len() {
         flags[firsts[i] as usize] = 1;
         flags[seconds[i] as usize] = 1;
@@ -61,7 +61,7 @@ fn read_marks(flags: &[u8], reached: &[u8], marks: &mut [u8])
     ensures { λ r. ⌜ now (marks .exit) ≡ marksBy (isFlagged (now (flags .entry))) (isFlagged (now (reached .entry))) (below (length (now (marks .entry)))) ⌝ }
 {
     let mut k: usize = 0;
-    // invariant: each mark before k is read; falls: cameras left
+    // invariant: counting/specs/Loops Mapped, each place to its mark; falls: cameras left
     while k < marks.len() {
         marks[k] = mark_of(flags[k], reached[2 * k], reached[2 * k + 1]);
         k += 1;

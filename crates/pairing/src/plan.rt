@@ -9,7 +9,7 @@
 // 4. A path to 2k gives a pairing as large that leaves camera k over, and by the same bound a largest pairing leaves over outer cameras only. So outer is
 // mark 00, inner 01, the rest 02, whichever pairs are lit; but a camera without a fit, which is outer, has 03, and the fits tell it.
 // (matching/proofs/Augmentation reachable-left, Certificates left-is-outer, Largest no-path-marks)
-// 5. The code's part: one search in proofs/Searching, the loop of searches in proofs/Improving.
+// 5. The code's part: one search in proofs/OneSearch, the loop of searches in proofs/SearchRuns.
 //   Ending, PairsFound   how searches ended; how many pairs there are then, with that
 //   improve              one search
 //   run_searches         one after the other, up to so many
@@ -19,20 +19,18 @@
 ghost use mathlib.Core.Path.{_≡_};
 ghost use Prim.Native.Nat.{_+_, _*_, _≤_};
 ghost use lib.ListN.{length};
-ghost use Rattle.matching.specs.Matching.{Matching};
-ghost use Rattle.matching.specs.Row.{partnerIn};
 ghost use Rattle.counting.specs.Pairs.{zipPairs};
-ghost use Rattle.pairing.specs.Table.{stockOf, FitTable};
+ghost use Rattle.pairing.specs.Table.{stockOf, PairedFits};
 ghost use Rattle.pairing.specs.Plan.{StockTable, Stepped, Ran, RanFrom, BudgetListed, PlanMarked};
 use crate::marks::marks_of;
 use crate::row::augment;
 use crate::row::pairs_of;
 use crate::row::row_of;
-use crate::table::table;
+use crate::table::fill_table;
 use formats::limits::ARCS_MOST;
 use formats::limits::CAMERAS_MOST;
 use formats::limits::SEARCHES_MOST;
-use search::answer::Answer;
+use search::answer::Sought;
 use search::answer::path_or_reached;
 
 // How searches ended: how many were run, and whether the last found none.
@@ -49,8 +47,7 @@ pub struct PairsFound {
 
 // One search: one pair more along the path found, or the table of reached nodes.
 fn improve(row: &mut [u8], firsts: &[u8], seconds: &[u8], reached: &mut [u8]) -> bool
-    requires { ⌜ FitTable (length (now row)) (now firsts) (now seconds) ⌝ }
-    requires { ⌜ Matching (zipPairs (now firsts) (now seconds)) (partnerIn (now row)) ⌝ }
+    requires { ⌜ PairedFits (now row) (now firsts) (now seconds) ⌝ }
     requires { ⌜ length (now reached) ≡ 2 * (length (now row) + 1) ⌝ }
     ensures { λ r. ⌜ Stepped (zipPairs (now (firsts .entry)) (now (seconds .entry))) (now (row .entry)) (now (row .exit)) (now (reached .exit)) r ⌝ }
 {
@@ -58,7 +55,7 @@ fn improve(row: &mut [u8], firsts: &[u8], seconds: &[u8], reached: &mut [u8]) ->
     let mut heads = [0u8; ARCS_MOST];
     let mut path = [0usize; 256];
     let n = row.len();
-    let arcs = table(row, firsts, seconds, &mut tails, &mut heads);
+    let arcs = fill_table(row, firsts, seconds, &mut tails, &mut heads);
     let answer = path_or_reached(
         n + 1,
         2 * n,
@@ -68,11 +65,11 @@ fn improve(row: &mut [u8], firsts: &[u8], seconds: &[u8], reached: &mut [u8]) ->
         &mut path,
     );
     match answer {
-        Answer::Path(count) => {
+        Sought::Path(count) => {
             augment(row, &tails[..arcs], &heads[..arcs], &path[..count]);
             true
         }
-        Answer::NoPath => false,
+        Sought::NoPath => false,
     }
 }
 
@@ -84,8 +81,7 @@ fn run_searches(
     seconds: &[u8],
     reached: &mut [u8],
 ) -> Ending
-    requires { ⌜ FitTable (length (now row)) (now firsts) (now seconds) ⌝ }
-    requires { ⌜ Matching (zipPairs (now firsts) (now seconds)) (partnerIn (now row)) ⌝ }
+    requires { ⌜ PairedFits (now row) (now firsts) (now seconds) ⌝ }
     requires { ⌜ length (now reached) ≡ 2 * (length (now row) + 1) ⌝ }
     ensures { λ r. ⌜ Ran most (zipPairs (now (firsts .entry)) (now (seconds .entry))) (now (row .entry)) (now (row .exit)) (now (reached .exit)) r ⌝ }
 {

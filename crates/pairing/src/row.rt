@@ -15,7 +15,7 @@ ghost use Rattle.matching.specs.Rotation.{rotateAlong, Rotates};
 ghost use Rattle.matching.specs.Row.{partnerIn, rotateRow};
 ghost use Rattle.counting.specs.Pairs.{zipPairs};
 ghost use Rattle.pairing.specs.Table.{PairTable, PairsWritten};
-ghost use Rattle.pairing.specs.Row.{tableGraph};
+ghost use Rattle.pairing.specs.Row.{rowGraph};
 
 // u, which is unlit, is lit with v; v's old partner becomes unlit.
 fn rotate(row: &mut [u8], u: u8, v: u8)
@@ -33,8 +33,8 @@ fn rotate(row: &mut [u8], u: u8, v: u8)
 // The rotations of a regular path from the source: its arcs 1, 3, 5 and so on.
 pub fn augment(row: &mut [u8], tails: &[u8], heads: &[u8], path: &[usize])
     requires { ⌜ length (now heads) ≡ length (now tails) ⌝ }
-    requires { ⌜ Rotates (length (now row)) (tableGraph (now row) (now tails) (now heads)) (drop 1 (now path)) (partnerIn (now row)) ⌝ }
-    ensures { λ r. ⌜ partnerIn (now (row .exit)) ≡ rotateAlong (tableGraph (now (row .entry)) (now (tails .entry)) (now (heads .entry))) (drop 1 (now (path .entry))) (partnerIn (now (row .entry))) ⌝ }
+    requires { ⌜ Rotates (length (now row)) (rowGraph (now row) (now tails) (now heads)) (drop 1 (now path)) (partnerIn (now row)) ⌝ }
+    ensures { λ r. ⌜ partnerIn (now (row .exit)) ≡ rotateAlong (rowGraph (now (row .entry)) (now (tails .entry)) (now (heads .entry))) (drop 1 (now (path .entry))) (partnerIn (now (row .entry))) ⌝ }
 {
     let mut i: usize = 1;
     // invariant: specs/Row Following; falls: arcs of the path left
@@ -51,7 +51,7 @@ fn clear_row(row: &mut [u8])
     ensures { λ r. ⌜ partnerIn (now (row .exit)) ≡ partner [] ⌝ }
 {
     let mut k: usize = 0;
-    // invariant: each camera before k is its own partner; falls: cameras left
+    // invariant: counting/specs/Loops Mapped, each camera to itself; falls: cameras left
     while k < row.len() {
         row[k] = k as u8;
         k += 1;
@@ -65,7 +65,7 @@ fn light_pairs(row: &mut [u8], firsts: &[u8], seconds: &[u8])
     ensures { λ r. ⌜ partnerIn (now (row .exit)) ≡ partner (zipPairs (now (firsts .entry)) (now (seconds .entry))) ⌝ }
 {
     let mut i = firsts.len();
-    // invariant: the row is that of the pairs from i on; falls: i
+    // invariant: specs/Row LitFrom; falls: i
     while 0 < i {
         i -= 1;
         let u = firsts[i];
@@ -108,7 +108,7 @@ pub fn pairs_of(row: &[u8], pair_firsts: &mut [u8], pair_seconds: &mut [u8]) -> 
 {
     let mut at: usize = 0;
     let mut k: usize = 0;
-    // invariant: specs/Table WritingPairs, with specs/Row pairsLeft; falls: cameras left
+    // invariant: specs/Table WritingPairs; falls: cameras left
     while k < row.len() {
         at = put_pair(pair_firsts, pair_seconds, at, k as u8, row[k]);
         k += 1;

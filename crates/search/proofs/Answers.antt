@@ -1,17 +1,16 @@
 -- From the search's end to its answer.
---   wanted-short             a wanted path has fewer arcs than the graph has nodes
 --   source-small             the source's mate can be told
 --   restorable, path-written      the source's mate is reached: the path is restored
 --   exhausted                the source's mate is not reached
---   path-explored            there is a path: nothing is left to do
---   sought-none              there is none: what the tables show
 --   table-tells              the table of the reachable nodes, read
 --   none-reached             the nodes' flags by their births are that table
---   none-explored            no path: what is left once the tables that are lent are filled
---   explored-searched        which is what a call owes that asks for the reached nodes
---   explored-answered        and one that asks for classes
+--   path-explored            there is a path: nothing is left to do
+--   sought-none              there is none: what the tables show
+--   explored-reached         what is explored is what a call owes that asks for the reached nodes
+--   explored-classes         and one that asks for classes
 --   wanted-front             the path written, read back
---   front-clear              the front of a table of zeros is clear
+--   front-long               the front of a table of zeros is as long as it is asked for
+--   fronts-blank             and clear: tables before a search
 use mathlib.Core.Path.{_≡_, refl, sym, ap, subst, _∙_}
 use mathlib.Core.Logic.{_⊎_, inl, inr, ⊎-elim}
 use mathlib.Core.Bool.{Bool, true, false}
@@ -22,29 +21,30 @@ use lib.Dec.{ltb, eqb}
 use lib.ListN.{length, getD, take, replicate, length-replicate, getD-replicate, List·getD-eq-default}
 use lib.Seq.{length-take-le, getD-take, ext-getD}
 use borrow.Author.Tests.{ltb-true, ltb-false}
-use Rattle.formats.specs.Limits.{arcsMost}
+use Rattle.formats.specs.Limits.{arcsMost, matePairsMost}
 use Rattle.counting.specs.Tests.{upFrom}
+use Rattle.counting.specs.Loops.{Mapped}
 use Rattle.counting.proofs.Booleans.{and-left, by-test}
 use Rattle.counting.proofs.Range.{pigeonhole}
 use Rattle.counting.proofs.Stores.{take-sets}
-use Rattle.skew.specs.Graph.{Graph, mate, nodes, nodesAlong, endOf, isRegular, isWanted, isReachable, canonical}
+use Rattle.skew.specs.Graph.{Graph, mate, nodes, nodesAlong, endOf, isRegular, isWanted, isReachable}
 use Rattle.skew.specs.Paths.{head, WellFormed}
 use Rattle.skew.specs.Search.{State, Earlier}
 use Rattle.skew.proofs.Paths.{regular-path, nodes-within, length-nodes}
 use Rattle.skew.proofs.Restoration.{restored-path}
-use Rattle.arcs.specs.Table.{graphOf}
-use Rattle.search.specs.State.{stateOf, Clear}
-use Rattle.search.specs.Queue.{Ended}
+use Rattle.arcs.proofs.Tables.{arc-in, tail-is, head-is}
+use Rattle.search.specs.Tables.{Arcs, graph, Labels}
+use Rattle.search.specs.State.{stateIn, Clear}
+use Rattle.search.specs.Queue.{Blank, SearchEnded}
 use Rattle.search.specs.Restore.{Route, LabelTable, Restorable, Restored}
 use Rattle.search.specs.ClassTable.{Exhausted}
-use Rattle.search.specs.Steps.{Mapped}
-use Rattle.search.specs.Answer.{PathWritten, PathSought, reachedFlag, flagsBy, reachedFrom, reachedTable, Explored, Searched, Answered}
-use Rattle.search.specs.declared.answer.Answer.{Answer}
-use Rattle.search.specs.declared.answer.Answer.the-variants.{Path, NoPath}
-use Rattle.arcs.proofs.Tables.{arc-in, tail-is, head-is}
-use Rattle.search.proofs.ClassTables.{no-path, table-reached}
+use Rattle.search.specs.Answer.{PathWritten, PathSought, reachedFlag, flagsBy, reachedFrom, reachedTable, Explored, PathOrReached, PathOrClasses}
+use Rattle.search.specs.declared.answer.Sought.{Sought}
+use Rattle.search.specs.declared.answer.Sought.the-variants.{Path, NoPath}
+use Rattle.search.proofs.ClassTables.{table-reached}
 
-pub wanted-short : (g : Graph) → WellFormed g → (p : List ℕ) → isWanted g p ≡ true → length p < nodes g
+-- a wanted path has fewer arcs than the graph has nodes
+wanted-short : (g : Graph) → WellFormed g → (p : List ℕ) → isWanted g p ≡ true → length p < nodes g
 wanted-short g wf p e =
     let P = regular-path g p (and-left (isRegular g p) (eqb (endOf g (g .source) p) (mate (g .source))) e) in
     omega (
@@ -54,57 +54,57 @@ wanted-short g wf p e =
           (nodes-within g (nodes g) (g .source) (endOf g (g .source) p) p (wf .head-node) (wf .source-node) (P .joins)),
     )
 
-module _ (n s : ℕ) (ts hs bs vs ss ms : List ℕ) (r : Bool) (E : Ended n s ts hs bs vs ss ms r) where
+module _ {T : Arcs} {L : Labels} {marks : List ℕ} {found : Bool} (E : SearchEnded T L marks found) where
   abbrev g : Graph
-  g = graphOf n s ts hs
+  g = graph T
 
   abbrev st : State
-  st = stateOf bs vs ss (E .clock)
+  st = stateIn L (E .clock)
 
-  pub source-small : s < arcsMost
+  pub source-small : T .source < arcsMost
   source-small = omega (arith, E .search .table .well-formed .source-node, E .search .table .pairs-few)
 
   -- THE PATH
-  labels : LabelTable n s ts hs bs vs
-  labels =
+  label-table : LabelTable T (L .births) (L .vias)
+  label-table =
       record {
         table = E .search .table;
         births-long = E .search .state .births-long;
         vias-long = E .search .state .vias-long;
-        tail-earlier = λ v l h. rw (tail-is n s ts hs (getD vs v 0) (arc v h)) at (earlier v l h .tail-earlier);
+        tail-earlier = λ v l h. rw (tail-is (E .search .table) (getD (L .vias) v 0) (arc v h)) at (earlier v l h .tail-earlier);
         head-earlier = λ v l h.
-            rw (head-is n s ts hs (getD vs v 0) (arc v h)) at
-            (⊎-elim {C = (head g (getD vs v 0) ≡ v) ⊎ (getD bs (mate (head g (getD vs v 0))) 0 < getD bs v 0)} (λ q. inl q) (λ q. inr (q .1))
-            (earlier v l h .head-mate));
+            rw (head-is (E .search .table) (getD (L .vias) v 0) (arc v h)) at
+            (⊎-elim {C = (head g (getD (L .vias) v 0) ≡ v) ⊎ (getD (L .births) (mate (head g (getD (L .vias) v 0))) 0 < getD (L .births) v 0)}
+            (λ q. inl q) (λ q. inr (q .1)) (earlier v l h .head-mate));
       }
     where
-      arc : (v : ℕ) → getD vs v 0 < length ts → getD vs v 0 < length (g .arcs)
-      arc v h = arc-in n s ts hs (E .search .table) (getD vs v 0) h
+      arc : (v : ℕ) → getD (L .vias) v 0 < length (T .tails) → getD (L .vias) v 0 < length (g .arcs)
+      arc v h = arc-in (E .search .table) (getD (L .vias) v 0) h
 
-      earlier : (v : ℕ) → ltb 0 (getD bs v 0) ≡ true → getD vs v 0 < length ts → Earlier g st v
+      earlier : (v : ℕ) → ltb 0 (getD (L .births) v 0) ≡ true → getD (L .vias) v 0 < length (T .tails) → Earlier g st v
       earlier v l h =
           let I = E .search .state .invariant in I .via-earlier v l (λ q. omega (arith, I .source-via, ap (st .via) q, arc v h))
 
-  module _ (found : r ≡ true) (m : ℕ) (em : m ≡ mate s) where
-    wanted : (p : List ℕ) × Route g bs vs s (mate s) p × (isWanted g p ≡ true)
-    wanted = restored-path g (E .search .table .well-formed) st (E .search .state .invariant) (E .path found)
+  module _ (yes : found ≡ true) {m : ℕ} (em : m ≡ mate (T .source)) where
+    wanted : (p : List ℕ) × Route g (L .births) (L .vias) (T .source) (mate (T .source)) p × (isWanted g p ≡ true)
+    wanted = restored-path g (E .search .table .well-formed) st (E .search .state .invariant) (E .path yes)
 
     short : length (wanted .0) < nodes g
     short = wanted-short g (E .search .table .well-formed) (wanted .0) (wanted .2)
 
-    pub restorable : (size : ℕ) → 2 * n ≤ size → Restorable n s ts hs bs vs s m 0 size
-    restorable size h = rw em (record { labels = labels; path = wanted .0; route = wanted .1; room = omega (arith, short) })
+    pub restorable : {size : ℕ} → 2 * T .pairs ≤ size → Restorable T (L .births) (L .vias) (T .source) m 0 size
+    restorable h = rw em (record { labels = label-table; path = wanted .0; route = wanted .1; room = omega (arith, short) })
 
-    pub path-written : (k : ℕ) (out out′ : List ℕ) → Restored n s ts hs bs vs s m 0 out out′ k → PathWritten g k out out′
-    path-written k out out′ R =
+    pub path-written : {k : ℕ} {out out′ : List ℕ} → Restored (T .tails) (T .heads) (L .births) (L .vias) (T .source) m 0 out out′ k →
+        PathWritten g k out out′
+    path-written R =
         let p = wanted .0 in
-        let w = R p (subst (λ (y : ℕ). Route g bs vs s y p) (sym em) (wanted .1)) in
+        let w = R (T .pairs) (T .source) p (subst (λ (y : ℕ). Route g (L .births) (L .vias) (T .source) y p) (sym em) (wanted .1)) in
         record { arcs = p; wanted = wanted .2; count = omega (arith, w .0); few = omega (arith, short, w .0); written = w .1 }
 
   -- NO PATH
-  module _ (none : r ≡ false) where
-    pub exhausted : Exhausted n s ts hs bs vs ss
-    exhausted = let C = E .closed none in record { clock = E .clock; search = E .search; closed = C .0; shut = C .1 }
+  pub exhausted : found ≡ false → Exhausted T L
+  exhausted none = let C = E .closed none in record { clock = E .clock; search = E .search; closed = C .0; shut = C .1 }
 
 -- THE TABLE OF THE REACHED NODES
 reached-at : (g : Graph) (a k i : ℕ) → i < k → getD (reachedFrom g (upFrom a k)) i 0 ≡ reachedFlag (isReachable g (a + i))
@@ -127,54 +127,52 @@ table-tells g v h =
     let e : 0 + v ≡ v = omega arith in
     ap (ltb 0) (rw e at (reached-at g 0 (nodes g) v h)) ∙ flag-tells (isReachable g v)
 
--- THE TABLES THAT ARE LENT
-module _ (n s : ℕ) (ts hs p p′ bs vs ss ms : List ℕ) where
-  pub path-explored : (a : Answer) (k : ℕ) (cs rs : List ℕ) → a ≡ Path k → PathSought n s ts hs a p p′ bs vs ss ms →
-      Explored (graphOf n s ts hs) a p p′ cs cs rs rs
-  path-explored a k cs rs e F =
-      let W = subst (λ (x : Answer). PathSought n s ts hs x p p′ bs vs ss ms) e F in
-      subst (λ (x : Answer). Explored (graphOf n s ts hs) x p p′ cs cs rs rs) (sym e) (W, refl, refl)
+pub none-reached : {T : Arcs} {L : Labels} {reached reached′ : List ℕ} → Exhausted T L → Mapped (flagsBy (L .births)) reached reached′ (length reached) →
+    length reached ≡ 2 * T .pairs → reached′ ≡ reachedTable (graph T)
+none-reached {T} {reached′ = reached′} B M l =
+    ext-getD 0 reached′ (reachedTable (graph T)) (M .long ∙ l ∙ sym (reached-length (graph T) 0 (2 * T .pairs)))
+    (λ i h.
+    let e : 0 + i ≡ i = omega arith in
+    M .done i (omega (arith, M .long)) ∙ ap reachedFlag (sym (table-reached B i)) ∙
+    sym (rw e at (reached-at (graph T) 0 (2 * T .pairs) i (omega (arith, M .long)))))
 
-  pub sought-none : (a : Answer) → a ≡ NoPath → PathSought n s ts hs a p p′ bs vs ss ms → PathSought n s ts hs NoPath p p′ bs vs ss ms
-  sought-none a e F = subst (λ (x : Answer). PathSought n s ts hs x p p′ bs vs ss ms) e F
+-- BY THE ANSWER'S CASES
+module _ (T : Arcs) (p p′ : List ℕ) (L : Labels) (marks : List ℕ) {a : Sought} where
+  pub path-explored : {k : ℕ} → a ≡ Path k → PathSought T a p p′ L marks → (cs rs : List ℕ) → Explored (graph T) a p p′ cs cs rs rs
+  path-explored e F cs rs =
+      subst (λ (x : Sought). Explored (graph T) x p p′ cs cs rs rs) (sym e) (subst (λ (x : Sought). PathSought T x p p′ L marks) e F, refl, refl)
 
-  module _ (F : PathSought n s ts hs NoPath p p′ bs vs ss ms) where
-    pub none-reached : (rs rs′ : List ℕ) → Mapped (flagsBy bs) rs rs′ (length rs) → length rs ≡ 2 * n → rs′ ≡ reachedTable (graphOf n s ts hs)
-    none-reached rs rs′ M l =
-        ext-getD 0 rs′ (reachedTable (graphOf n s ts hs)) (M .long ∙ l ∙ sym (reached-length (graphOf n s ts hs) 0 (2 * n)))
-        (λ i h.
-        let e : 0 + i ≡ i = omega arith in
-        M .done i (omega (arith, M .long)) ∙ ap reachedFlag (sym (table-reached n s ts hs bs vs ss (F .1) i)) ∙
-        sym (rw e at (reached-at (graphOf n s ts hs) 0 (2 * n) i (omega (arith, M .long)))))
+  pub sought-none : a ≡ NoPath → PathSought T a p p′ L marks → PathSought T NoPath p p′ L marks
+  sought-none e F = subst (λ (x : Sought). PathSought T x p p′ L marks) e F
 
-    pub none-explored : (cs cs′ rs rs′ : List ℕ) → (0 < length cs → cs′ ≡ canonical (graphOf n s ts hs)) → Mapped (flagsBy bs) rs rs′ (length rs) →
-        Explored (graphOf n s ts hs) NoPath p p′ cs cs′ rs rs′
-    none-explored cs cs′ rs rs′ h M = (no-path n s ts hs bs vs ss (F .1), F .0, h, none-reached rs rs′ M)
-
--- THE TWO CALLS
 module _ (g : Graph) (p p′ cs cs′ rs rs′ : List ℕ) where
-  pub explored-searched : (a : Answer) → length rs ≡ nodes g → Explored g a p p′ cs cs′ rs rs′ → Searched g a p p′ rs rs′
-  explored-searched (Path k) l F = (F .0, F .2)
-  explored-searched NoPath l F = (F .0, F .1, F .3 l)
+  pub explored-reached : (a : Sought) → length rs ≡ nodes g → Explored g a p p′ cs cs′ rs rs′ → PathOrReached g a p p′ rs rs′
+  explored-reached (Path k) l F = (F .0, F .2)
+  explored-reached NoPath l F = (F .0, F .1, F .3 l)
 
-  pub explored-answered : (a : Answer) → 0 < length cs → Explored g a p p′ cs cs′ rs rs′ → Answered g a p p′ cs cs′
-  explored-answered (Path k) h F = (F .0, F .1)
-  explored-answered NoPath h F = (F .0, F .1, F .2 h)
+  pub explored-classes : (a : Sought) → 0 < length cs → Explored g a p p′ cs cs′ rs rs′ → PathOrClasses g a p p′ cs cs′
+  explored-classes (Path k) h F = (F .0, F .1)
+  explored-classes NoPath h F = (F .0, F .1, F .2 h)
 
 pub wanted-front : {g : Graph} {k : ℕ} {p p′ : List ℕ} → PathWritten g k p p′ → k ≤ length p → isWanted g (take k p′) ≡ true
 wanted-front {p = p} W h = let c = W .count in rw (W .written, c, take-sets p (W .arcs) (omega arith)) (W .wanted)
 
-pub front-clear : (G : Graph) (size : ℕ) → nodes G ≤ size → Clear G (take (nodes G) (replicate size 0))
-front-clear G size h =
+-- THE FRONTS OF TABLES OF ZEROS
+pub front-long : (n size : ℕ) → n ≤ size → length {A = ℕ} (take n (replicate size 0)) ≡ n
+front-long n size h = length-take-le n (replicate size 0) (omega (arith, length-replicate {A = ℕ} size 0))
+
+front-clear : (n size : ℕ) → n ≤ size → Clear n (take n (replicate size 0))
+front-clear n size h =
     record {
-      long = long;
+      long = front-long n size h;
       zeros = λ u.
-          by-test (ltb u (nodes G))
-          (λ t.
-          let l = ltb-true u (nodes G) t in
-          getD-take {A = ℕ} (nodes G) (replicate size 0) u 0 l ∙ getD-replicate {A = ℕ} size u 0 0 (omega arith))
-          (λ t. List·getD-eq-default {A = ℕ} (take (nodes G) (replicate size 0)) 0 (omega (arith, long, ltb-false u (nodes G) t)));
+          by-test (ltb u n)
+          (λ t. let l = ltb-true u n t in getD-take {A = ℕ} n (replicate size 0) u 0 l ∙ getD-replicate {A = ℕ} size u 0 0 (omega arith))
+          (λ t. List·getD-eq-default {A = ℕ} (take n (replicate size 0)) 0 (omega (arith, front-long n size h, ltb-false u n t)));
     }
-  where
-    long : length {A = ℕ} (take (nodes G) (replicate size 0)) ≡ nodes G
-    long = length-take-le (nodes G) (replicate size 0) (omega (arith, length-replicate {A = ℕ} size 0))
+
+pub fronts-blank : (n : ℕ) → n ≤ matePairsMost →
+    let front : List ℕ = take (2 * n) (replicate 256 0) in Blank n front front front front
+fronts-blank n h =
+    let clear = front-clear (2 * n) 256 (omega arith) in
+    record { births-clear = clear; marks-clear = clear; vias-long = clear .long; queue-long = clear .long }

@@ -1,5 +1,4 @@
 -- Laws, by subject.
---   Maps         lists mapped in place
 --   States       the tables as a state
 --   TreeSteps    the tree step on the tables
 --   Ascents      the ascent from the ends of an arc
@@ -12,7 +11,6 @@
 --   Roots        the root of a node's tree of buds
 --   ClassTables  the class table, node by node
 --   Answers      from the search's end to its answer
-pub mod Maps
 pub mod States
 pub mod TreeSteps
 pub mod Ascents

@@ -1,258 +1,243 @@
 -- A look at one arc of a reached node: whether it is settled, and what the tables hold after the step that it asks for.
---   SettledReads, settled-reads         where `is_settled` reads
---   inside-bud, enters-bud, leaves-bud  three ways to be settled
---   loop-unsettled, link-unsettled      two ways not to be
---   LookReads, look-reads               where `look` reads
---   new-head, new-room, reached-arc, bridging, bud-queue    what the steps ask
---   looked-new, looked-old              the head is new and was reached, or was reached already
---   looked-settled, looked-bud          the arc is settled, or was settled by a bud
-use mathlib.Core.Path.{_≡_, refl, sym, ap, _∙_}
+--   settled-tells, unsettled-tells          what `is_settled` answers: the arc is settled, or asks for a bud
+--   LookReads heads births queue k i y z    y is the head of arc i and z is y's mate; where `look` reads
+--   look-reads, births-clear                these bounds; the marks are clear
+--   looked-old                              the head was reached already
+--   new-room, looked-new                    the head is new: there is room in the queue, and it was reached
+--   looked-settled                          the head's mate is reached and the arc is settled
+--   bridging, bud-queue, looked-bud         or it asks for a bud: what the step and the queue are given, and the arc was settled
+use mathlib.Core.Path.{_≡_, sym, ap, _∙_}
 use mathlib.Core.Logic.{inl, inr, _≢_, ⊎-elim}
-use mathlib.Core.Bool.{Bool, true, false}
+use mathlib.Core.Bool.{true, false}
 use mathlib.Core.List.{List}
 use Prim.Native.Nat.{ℕ, _+_, _*_, _/_, _≤_, _<_}
 use native.Mathlib.Omega.{arith}
 use lib.Dec.{eqb}
 use lib.ListN.{length, getD, set}
-use borrow.Author.Tests.{eqb-true, lt-ltb, le-ltb}
-use Rattle.formats.specs.Limits.{arcsMost, matePairsMost}
-use Rattle.counting.proofs.Booleans.{by-test, true-false}
+use borrow.Author.Tests.{eqb-true, eqb-false, lt-ltb, le-ltb}
+use Rattle.counting.proofs.Booleans.{or-cases, or-false-left, or-false-right, by-test, true-false}
 use Rattle.skew.specs.Graph.{Graph, mate}
 use Rattle.skew.specs.Paths.{tail, head}
 use Rattle.skew.specs.Search.{State, Invariant}
-use Rattle.skew.specs.Steps.{Settled}
+use Rattle.skew.specs.Steps.{Settled, SettledArc, Touched}
+use Rattle.skew.specs.Ascent.{Unsettled}
 use Rattle.skew.proofs.Mates.{mate-below}
 use Rattle.skew.proofs.Settled.{tree-step-reached, tree-step-settled}
-use Rattle.arcs.specs.Table.{graphOf}
-use Rattle.search.specs.State.{stateOf, SearchHeld, Clear}
-use Rattle.search.specs.Steps.{NewHead, TreeStepped, Bridging, Later, BudStepped}
-use Rattle.search.specs.Queue.{Queued, queuedBelow, Enqueued, Leaving, ReachedArc, Decided, Looked}
-use Rattle.arcs.proofs.Tables.{tail-is, head-is}
-use Rattle.search.proofs.States.{is-reached, not-reached, base-at, reached-is-node, ArcBounds, arc-bounds}
+use Rattle.arcs.proofs.Tables.{head-is}
+use Rattle.search.specs.Tables.{Arcs, graph, Labels}
+use Rattle.search.specs.State.{stateIn, StateHeld, Clear}
+use Rattle.search.specs.Steps.{Leaving, NewHead, Joining, Bridging, headReached, BudStepped}
+use Rattle.search.specs.Queue.{Queued, queuedBelow, Enqueued, isSettled, Looking, ArcLooked}
+use Rattle.search.proofs.States.{is-reached, not-reached, reached-is-node, ArcBounds, arc-bounds, tail-base, head-base}
+use Rattle.search.proofs.TreeSteps.{tree-stepped}
 use Rattle.search.proofs.Queues.{queued-same, enqueued-same, enqueued-none, enqueued-add, queue-room}
 
-module _ (n s : ℕ) (ts hs bs vs ss : List ℕ) (k i : ℕ) (S : SearchHeld n s ts hs bs vs ss k) where
+-- IS THE ARC SETTLED?
+module _ {T : Arcs} {L : Labels} {k i : ℕ} (J : Joining T L k i) where
   abbrev g : Graph
-  g = graphOf n s ts hs
+  g = graph T
 
   abbrev st : State
-  st = stateOf bs vs ss k
+  st = stateIn L k
+
+  abbrev A : Leaving T L k i
+  A = J .leaving
 
   abbrev I : Invariant g st
-  I = S .state .invariant
+  I = A .held .state .invariant
 
-  -- IS THE ARC SETTLED?
-  module _ (x y : ℕ) (A : ReachedArc g st i) (ex : x ≡ getD ts i 0) (ey : y ≡ getD hs i 0) where
-    B : ArcBounds n i ts hs bs vs ss
-    B = arc-bounds n s ts hs bs vs ss k i S (A .is-arc)
+  -- the bases of tail and head, and their arcs
+  abbrev p : ℕ
+  p = getD (L .bases) (getD (T .tails) i 0 / 2) 0
 
-    tail-x : tail g i ≡ x
-    tail-x = tail-is n s ts hs i (A .is-arc) ∙ sym ex
+  abbrev q : ℕ
+  q = getD (L .bases) (getD (T .heads) i 0 / 2) 0
 
-    head-y : head g i ≡ y
-    head-y = head-is n s ts hs i (A .is-arc) ∙ sym ey
+  abbrev a : ℕ
+  a = getD (L .vias) p 0
 
-    base-x : st .base (tail g i) ≡ getD ss (x / 2) 0
-    base-x = ap (st .base) tail-x ∙ base-at g bs vs ss k (S .state) x (rw ex (B .tail-node))
+  abbrev b : ℕ
+  b = getD (L .vias) q 0
 
-    base-y : st .base (head g i) ≡ getD ss (y / 2) 0
-    base-y = ap (st .base) head-y ∙ base-at g bs vs ss k (S .state) y (rw ey (B .head-node))
+  head-at : head g i ≡ getD (T .heads) i 0
+  head-at = head-is (A .held .table) i (A .is-arc)
 
-    base-z : st .base (mate (head g i)) ≡ getD ss (y / 2) 0
-    base-z = I .base-mate (head g i) ∙ base-y
+  base-p : st .base (tail g i) ≡ p
+  base-p = tail-base (A .held) (A .is-arc)
 
-    pub record SettledReads : Type 0 where
-      pub x-half : x / 2 < length ss
-      pub y-half : y / 2 < length ss
-      pub y-birth : y < length bs
-      pub p-via : getD ss (x / 2) 0 < length vs
-      pub q-via : getD ss (y / 2) 0 < length vs
-      pub vias-few : length vs ≤ 256
-      pub arcs-few : i < arcsMost
+  base-q : st .base (head g i) ≡ q
+  base-q = head-base (A .held) (A .is-arc)
 
-    pub settled-reads : SettledReads
-    settled-reads =
-        let xl : x < 2 * n = rw ex (B .tail-node) in
-        let yl : y < 2 * n = rw ey (B .head-node) in
-        record {
-          x-half = omega (arith, B .bases-long);
-          y-half = omega (arith, B .bases-long);
-          y-birth = omega (arith, B .births-long);
-          p-via = omega (arith, S .state .base-node (x / 2) (omega arith), B .vias-long);
-          q-via = omega (arith, S .state .base-node (y / 2) (omega arith), B .vias-long);
-          vias-few = omega (arith, B .vias-long, B .pairs-few);
-          arcs-few = B .small;
-        }
+  base-z : st .base (mate (head g i)) ≡ q
+  base-z = I .base-mate (head g i) ∙ base-q
 
-    yes : Settled g st i → Decided g st i true
-    yes h = record { yes = λ e. h; no = λ e. true-false refl e }
+  pub settled-tells : isSettled (T .tails) (T .heads) L i ≡ true → Settled g st i
+  settled-tells e =
+      by-test (eqb p q) (λ t. inl (base-p ∙ eqb-true p q t ∙ sym base-q, rw head-at (rw t at e)))
+      (λ t.
+      ⊎-elim (λ h. inr (inl (sym (eqb-true b i h) ∙ ap (st .via) (sym base-q)))) (λ h. inr (inr (sym (eqb-true a (mate i) h) ∙ ap (st .via) (sym base-p))))
+      (or-cases (eqb b i) (eqb a (mate i)) (rw t at e)))
 
-    pub inside-bud : getD ss (x / 2) 0 ≡ getD ss (y / 2) 0 → (getD bs y 0 ≡ 0 → ⊥) → Decided g st i true
-    inside-bud e b = yes (inl (base-x ∙ e ∙ sym base-y, rw head-y (is-reached (getD bs y 0) b)))
+  -- the head is new in the tail's fragment, or the arc leads to another one and is the base arc of neither way
+  inside : p ≡ q → st .reached (head g i) ≡ false → Unsettled g st i (tail g i) (mate (head g i))
+  inside e new =
+      record {
+        not-base-arcs = λ ne. absurd (ne (base-p ∙ e ∙ sym base-z));
+        mate-new = λ z.
+            ⊎-elim (λ t. true-false t new) (λ t. rw (← t .1) new)
+            (I .whole (st .base (tail g i)) (head g i) (I .base-base (tail g i) (A .tail-reached)) (base-q ∙ sym e ∙ sym base-p));
+      }
 
-    pub enters-bud : getD vs (getD ss (y / 2) 0) 0 ≡ i → Decided g st i true
-    enters-bud e = yes (inr (inl (sym e ∙ ap (st .via) (sym base-y))))
+  between : p ≢ q → b ≢ i → a ≢ mate i → Unsettled g st i (tail g i) (mate (head g i))
+  between ne nb na =
+      record {
+        not-base-arcs = λ r. (λ z. nb (sym (z ∙ ap (st .via) base-z)), λ z. na (sym (z ∙ ap (st .via) base-p)));
+        mate-new = λ z. absurd (ne (sym base-p ∙ z ∙ base-z));
+      }
 
-    pub leaves-bud : (j : ℕ) → j ≡ mate i → getD vs (getD ss (x / 2) 0) 0 ≡ j → Decided g st i true
-    leaves-bud j ej e = yes (inr (inr (sym ej ∙ sym e ∙ ap (st .via) (sym base-x))))
+  pub unsettled-tells : isSettled (T .tails) (T .heads) L i ≡ false → Bridging T L k i
+  unsettled-tells e =
+      record {
+        joining = J;
+        unsettled =
+            by-test (eqb p q) (λ t. inside (eqb-true p q t) (rw head-at (rw t at e)))
+            (λ t.
+            between (eqb-false p q t) (eqb-false b i (or-false-left (eqb b i) (eqb a (mate i)) (rw t at e)))
+            (eqb-false a (mate i) (or-false-right (eqb b i) (eqb a (mate i)) (rw t at e))));
+      }
 
-    pub loop-unsettled : getD ss (x / 2) 0 ≡ getD ss (y / 2) 0 → getD bs y 0 ≡ 0 → Decided g st i false
-    loop-unsettled e b =
-        let new-y : st .reached (head g i) ≡ false = rw head-y (not-reached (getD bs y 0) b) in
-        let same : st .base (tail g i) ≡ st .base (head g i) = base-x ∙ e ∙ sym base-y in
-        record {
-          yes = λ q. true-false q refl;
-          no = λ q.
-              record {
-                not-base-arcs = λ ne. absurd (ne (same ∙ sym (I .base-mate (head g i))));
-                mate-new = λ q.
-                    ⊎-elim (λ t. true-false t new-y) (λ t. rw (← t .1) new-y)
-                    (I .whole (st .base (tail g i)) (head g i) (I .base-base (tail g i) (A .tail-reached)) (sym same));
-              };
-        }
+-- THE LOOK
+pub record LookReads (heads births queue : List ℕ) (k i y z : ℕ) : Type 0 where
+  pub head : y ≡ getD heads i 0
+  pub mate-of : z ≡ mate y
+  pub head-in-births : y < length births
+  pub mate-in-births : z < length births
+  pub queue-few : length queue ≤ 256
+  pub clock-few : k ≤ 1000
 
-    pub link-unsettled : getD ss (x / 2) 0 ≢ getD ss (y / 2) 0 → getD vs (getD ss (y / 2) 0) 0 ≢ i → (j : ℕ) → j ≡ mate i →
-        getD vs (getD ss (x / 2) 0) 0 ≢ j → Decided g st i false
-    link-unsettled ne e j ej f =
-        record {
-          yes = λ q. true-false q refl;
-          no = λ q.
-              record {
-                not-base-arcs = λ r. (λ q. e (sym (q ∙ ap (st .via) base-z)), λ q. f (sym (ej ∙ q ∙ ap (st .via) base-x)));
-                mate-new = λ q. absurd (ne (sym base-x ∙ q ∙ base-z));
-              };
-        }
+module _ {T : Arcs} {L : Labels} {k i : ℕ} {marks queue : List ℕ} {count : ℕ} (A : Looking T L k i marks queue count) where
+  H : StateHeld (graph T) L k
+  H = A .leaving .held .state
 
-  -- THE LOOK
-  module _ (ms q : List ℕ) (m₀ y m : ℕ) (A : Leaving g st i) (C : Clear g ms) (Q : Queued (st .reached) q m₀) (long : length q ≡ 2 * n)
-      (ey : y ≡ getD hs i 0) (em : m ≡ mate y) where
-    L : ArcBounds n i ts hs bs vs ss
-    L = arc-bounds n s ts hs bs vs ss k i S (A .is-arc)
+  B : ArcBounds T L i
+  B = arc-bounds (A .leaving .held) (A .leaving .is-arc)
 
-    y-node : y < 2 * n
-    y-node = rw ey (L .head-node)
+  pub births-clear : Clear (length (L .births)) marks
+  births-clear = rw (H .births-long) (A .clear)
 
-    pub record LookReads : Type 0 where
-      pub m-birth : m < length bs
-      pub y-birth : y < length bs
-      pub clock-few : k ≤ 1000
-      pub queue-few : length q ≤ 256
-      pub pairs-few : n ≤ matePairsMost
+  pub look-reads : {y z : ℕ} → y ≡ getD (T .heads) i 0 → z ≡ mate y → LookReads (T .heads) (L .births) queue k i y z
+  look-reads {y} ey ez =
+      let l : y < 2 * T .pairs = rw ey (B .head-low) in
+      record {
+        head = ey;
+        mate-of = ez;
+        head-in-births = omega (arith, B .births-long);
+        mate-in-births = rw ez (omega (arith, B .births-long, mate-below y (2 * T .pairs) (omega arith) l));
+        queue-few = omega (arith, A .queue-long, B .pairs-few);
+        clock-few = omega (arith, H .clock-bound);
+      }
 
-    pub look-reads : LookReads
-    look-reads =
-        let ml : m < 2 * n = rw em (mate-below y (2 * n) (omega arith) y-node) in
-        record {
-          m-birth = omega (arith, L .births-long);
-          y-birth = omega (arith, L .births-long, y-node);
-          clock-few = omega (arith, S .state .clock-bound);
-          queue-few = omega (arith, L .pairs-few);
-          pairs-few = L .pairs-few;
-        }
+  unchanged : Touched (graph T) (stateIn L k) i → (stateIn L k .reached (mate (head (graph T) i)) ≡ true → SettledArc (graph T) (stateIn L k) i) →
+      ArcLooked T L k i queue count L k marks queue count
+  unchanged t s =
+      record {
+        state = H;
+        clear = A .clear;
+        later = record { reached-still = λ u l. l; settled-still = λ j h e. e };
+        touched = t;
+        settled = s;
+        enqueued = enqueued-none (A .queued);
+      }
 
-    head-is-y : head g i ≡ y
-    head-is-y = head-is n s ts hs i (A .is-arc) ∙ sym ey
+  module _ {y z : ℕ} (R : LookReads (T .heads) (L .births) queue k i y z) where
+    in-queue : y < length queue
+    in-queue = omega (arith, A .queue-long, R .head-in-births, B .births-long)
 
-    mate-is-m : mate (head g i) ≡ m
-    mate-is-m = ap (λ (z : ℕ). mate z) head-is-y ∙ sym em
+    head-y : head (graph T) i ≡ y
+    head-y = head-is (A .leaving .held .table) i (A .leaving .is-arc) ∙ sym (R .head)
 
-    new-y : getD bs y 0 ≡ 0 → st .reached (head g i) ≡ false
-    new-y h = rw head-is-y (not-reached (getD bs y 0) h)
+    mate-z : mate (head (graph T) i) ≡ z
+    mate-z = ap mate head-y ∙ sym (R .mate-of)
 
-    new-m : getD bs m 0 ≡ 0 → st .reached (mate (head g i)) ≡ false
-    new-m h = rw mate-is-m (not-reached (getD bs m 0) h)
+    -- the head's mate is new
+    module _ (nz : getD (L .births) z 0 ≡ 0) where
+      mate-new : stateIn L k .reached (mate (head (graph T) i)) ≡ false
+      mate-new = rw mate-z (not-reached (getD (L .births) z 0) nz)
 
-    reached-m : (getD bs m 0 ≡ 0 → ⊥) → st .reached (mate (head g i)) ≡ true
-    reached-m h = rw mate-is-m (is-reached (getD bs m 0) h)
+      pub looked-old : getD (L .births) y 0 ≢ 0 → ArcLooked T L k i queue count L k marks queue count
+      looked-old ry = unchanged (inl (rw head-y (is-reached (getD (L .births) y 0) ry))) (λ t. true-false t mate-new)
 
-    nothing : Later g st st
-    nothing = record { reached-still = λ u l. l; settled-still = λ j h e. e }
+      module _ (ny : getD (L .births) y 0 ≡ 0) where
+        y-new : stateIn L k .reached y ≡ false
+        y-new = not-reached (getD (L .births) y 0) ny
 
-    -- the head's mate is not reached, and the head is
-    pub looked-old : getD bs m 0 ≡ 0 → (getD bs y 0 ≡ 0 → ⊥) → Looked g i st q m₀ bs vs ss ms q k m₀
-    looked-old a b =
-        record {
-          state = S .state;
-          clear = C;
-          later = nothing;
-          touched = inl (rw head-is-y (is-reached (getD bs y 0) b));
-          settled = λ t. true-false t (new-m a);
-          enqueued = enqueued-none (st .reached) q m₀ Q;
-        }
+        new-head : NewHead T L k i
+        new-head = record { leaving = A .leaving; head-new = rw head-y y-new; mate-new = mate-new }
 
-    -- neither is
-    module _ (a : getD bs m 0 ≡ 0) (b : getD bs y 0 ≡ 0) where
-      pub new-head : NewHead g st i
-      new-head = record { is-arc = A .is-arc; tail-reached = A .tail-reached; head-new = new-y b; mate-new = new-m a }
+        pub new-room : count < length queue
+        new-room = queue-room (A .queued) y-new in-queue
 
-      y-out : st .reached y ≡ false
-      y-out = rw head-is-y at (new-y b)
-
-      pub new-room : m₀ < length q
-      new-room = queue-room (st .reached) q m₀ y Q y-out (omega (arith, long, y-node))
-
-      pub looked-new : (bs′ vs′ ss′ : List ℕ) → TreeStepped g i st bs′ vs′ ss′ (k + 1) → Looked g i st q m₀ bs′ vs′ ss′ ms (set q m₀ y) (k + 1) (m₀ + 1)
-      looked-new bs′ vs′ ss′ N =
-          let d = S .table .well-formed .symmetric in
-          let new = stateOf bs′ vs′ ss′ (k + 1) in
-          record {
-            state = N .state;
-            clear = C;
-            later =
-                record {
-                  reached-still = tree-step-reached g d st I i new (new-y b) (new-m a) (N .step);
-                  settled-still = λ j l. tree-step-settled g d st I i new (new-y b) (new-m a) (N .step) j;
-                };
-            touched = inl (N .step .reached-head);
-            settled = λ t. true-false t (new-m a);
-            enqueued =
-                enqueued-add (st .reached) q m₀ y Q y-out (omega (arith, long, y-node)) (new .reached) (rw head-is-y at (N .step .reached-head))
-                (λ u ne. N .step .reached-other u (λ e. ne (e ∙ head-is-y))) q m₀ (enqueued-none (st .reached) q m₀ Q);
-          }
+        pub looked-new : {L′ : Labels} → L′ ≡ headReached (T .heads) L k i →
+            ArcLooked T L k i queue count L′ (k + 1) marks (set queue count y) (count + 1)
+        looked-new e =
+            let N = tree-stepped new-head in
+            let d = A .leaving .held .table .well-formed .symmetric in
+            let new = stateIn (headReached (T .heads) L k i) (k + 1) in
+            rw e
+            (record {
+              state = N .state;
+              clear = A .clear;
+              later =
+                  record {
+                    reached-still = tree-step-reached (graph T) d (stateIn L k) (H .invariant) i new (new-head .head-new) mate-new (N .step);
+                    settled-still = λ j l. tree-step-settled (graph T) d (stateIn L k) (H .invariant) i new (new-head .head-new) mate-new (N .step) j;
+                  };
+              touched = inl (N .step .reached-head);
+              settled = λ t. true-false t mate-new;
+              enqueued =
+                  enqueued-add (enqueued-none (A .queued)) y-new in-queue (rw head-y at (N .step .reached-head))
+                  (λ u ne. N .step .reached-other u (λ e. ne (e ∙ head-y)));
+            })
 
     -- the head's mate is reached
-    module _ (a : getD bs m 0 ≡ 0 → ⊥) where
-      pub reached-arc : ReachedArc g st i
-      reached-arc = record { is-arc = A .is-arc; tail-reached = A .tail-reached; mate-reached = reached-m a }
+    module _ (rz : getD (L .births) z 0 ≢ 0) where
+      joining : Joining T L k i
+      joining = record { leaving = A .leaving; mate-reached = rw mate-z (is-reached (getD (L .births) z 0) rz) }
 
-      pub looked-settled : (r : Bool) → Decided g st i r → r ≡ true → Looked g i st q m₀ bs vs ss ms q k m₀
-      looked-settled r D e =
-          record {
-            state = S .state;
-            clear = C;
-            later = nothing;
-            touched = inr (reached-m a);
-            settled = λ t. record { tail-reached = A .tail-reached; mate-reached = t; settled = D .yes e };
-            enqueued = enqueued-none (st .reached) q m₀ Q;
-          }
+      pub looked-settled : isSettled (T .tails) (T .heads) L i ≡ true → ArcLooked T L k i queue count L k marks queue count
+      looked-settled e =
+          unchanged (inr (joining .mate-reached))
+          (λ t. record { tail-reached = A .leaving .tail-reached; mate-reached = t; settled = settled-tells joining e })
 
-      pub bridging : (r : Bool) → Decided g st i r → r ≡ false → Bridging g st i
-      bridging r D e = record { is-arc = A .is-arc; tail-reached = A .tail-reached; mate-reached = reached-m a; unsettled = D .no e }
+      pub bridging : isSettled (T .tails) (T .heads) L i ≡ false → Bridging T L k i
+      bridging = unsettled-tells joining
 
-      module _ (bs′ vs′ ss′ ms′ : List ℕ) (N : BudStepped g i st bs′ vs′ ss′ ms′ k) where
-        -- reached before the step, as the queue tells it
-        before : (u : ℕ) → queuedBelow bs′ k 0 u ≡ st .reached u
-        before u = rw (le-ltb u 0 (omega arith)) (N .born u)
+  -- a bud was formed
+  module _ {L′ : Labels} (N : BudStepped T L k i L′) where
+    -- reached before the step, as the queue tells it
+    before : (u : ℕ) → queuedBelow (L′ .births) k 0 u ≡ stateIn L k .reached u
+    before u = rw (le-ltb u 0 (omega arith)) (N .born u)
 
-        pub bud-queue : (length q ≡ length bs′) × Queued (queuedBelow bs′ k 0) q m₀
-        bud-queue = (omega (arith, long, N .state .births-long), queued-same (st .reached) (queuedBelow bs′ k 0) q m₀ before Q)
+    pub bud-queue : (length queue ≡ length (L′ .births)) × Queued (queuedBelow (L′ .births) k 0) queue count
+    bud-queue = (omega (arith, A .queue-long, N .state .births-long), queued-same before (A .queued))
 
-        pub looked-bud : (q′ : List ℕ) (m′ : ℕ) → Enqueued (queuedBelow bs′ k (length bs′)) q m₀ q′ m′ → Looked g i st q m₀ bs′ vs′ ss′ ms′ q′ (k + 1) m′
-        looked-bud q′ m′ E =
-            let new = stateOf bs′ vs′ ss′ (k + 1) in
-            record {
-              state = N .state;
-              clear = N .clear;
-              later = N .later;
-              touched = inr (N .settled .mate-reached);
-              settled = λ t. N .settled;
-              enqueued =
-                  enqueued-same (queuedBelow bs′ k (length bs′)) (new .reached) q′ m′
-                  (λ u.
-                  by-test (eqb (getD bs′ u 0) k)
-                  (λ t.
-                  let r : new .reached u ≡ true = rw (eqb-true (getD bs′ u 0) k t) (lt-ltb 0 k (S .state .clock-late)) in
-                  rw (t, r) (sym (lt-ltb u (length bs′) (omega (arith, N .state .births-long, reached-is-node g bs′ vs′ ss′ (k + 1) (N .state) u r)))))
-                  (λ t. rw t))
-                  q m₀ E;
-            }
+    after : (u : ℕ) → stateIn L′ (k + 1) .reached u ≡ queuedBelow (L′ .births) k (length (L′ .births)) u
+    after u =
+        by-test (eqb (getD (L′ .births) u 0) k)
+        (λ t.
+        let r : stateIn L′ (k + 1) .reached u ≡ true = rw (eqb-true (getD (L′ .births) u 0) k t) (lt-ltb 0 k (H .clock-late)) in
+        rw (t, r) (sym (lt-ltb u (length (L′ .births)) (omega (arith, N .state .births-long, reached-is-node (N .state) u r)))))
+        (λ t. rw t)
+
+    pub looked-bud : {marks′ queue′ : List ℕ} {count′ : ℕ} → Clear (length (L .births)) marks′ →
+        Enqueued (queuedBelow (L′ .births) k (length (L′ .births))) queue count queue′ count′ →
+        ArcLooked T L k i queue count L′ (k + 1) marks′ queue′ count′
+    looked-bud C E =
+        record {
+          state = N .state;
+          clear = rw (H .births-long) at C;
+          later = N .later;
+          touched = inr (N .settled .mate-reached);
+          settled = λ t. N .settled;
+          enqueued = enqueued-same after E;
+        }

@@ -2,6 +2,7 @@
 --   reversed-sets                 a run that was stored and then reversed
 --   Reversing ..                  the loop's state: reversed outside the places from a to b
 --   reversing-start, -next, -end  the loop
+--   reversing-arc                 what stands between a and b is as small as it was
 use mathlib.Core.Path.{_≡_, refl, sym, ap, subst, _∙_}
 use mathlib.Core.Logic.{inl, inr, _≢_, ⊎-elim}
 use mathlib.Core.List.{List}
@@ -68,8 +69,12 @@ reversing-start l from to h =
       after = λ k x. refl;
     }
 
-pub reversing-end : (was now : List ℕ) (from to a b : ℕ) → Reversing was now from to a b → b ≤ a → MateReversed was now from to
-reversing-end was now from to a b T h =
+pub reversing-arc : {was now : List ℕ} {from to a b most : ℕ} → Reversing was now from to a b → ((k : ℕ) → from ≤ k → k < to → getD was k 0 < most) →
+    (k : ℕ) → a ≤ k → k < b → getD now k 0 < most
+reversing-arc T few k l h = rw (T .middle k l h) (few k (omega (arith, T .low)) (omega (arith, T .meet, T .low)))
+
+pub reversing-end : {was now : List ℕ} {from to a b : ℕ} → Reversing was now from to a b → b ≤ a → MateReversed was now from to
+reversing-end {a = a} T h =
     record {
       long = T .long;
       inside = λ k x y. by-test (ltb k a) (λ t. T .left k x (ltb-true k a t)) (λ t. T .right k (omega (arith, ltb-false k a t)) y);
@@ -77,9 +82,9 @@ reversing-end was now from to a b T h =
       after = T .after;
     }
 
-pub reversing-next : (was now : List ℕ) (from to a b x y : ℕ) → Reversing was now from to a b → a < b → to ≤ length was →
+pub reversing-next : {was now : List ℕ} {from to a b x y : ℕ} → Reversing was now from to a b → a < b → to ≤ length was →
     x ≡ mate (getD now a 0) → y ≡ mate (getD now (b - 1) 0) → Reversing was (set (set now a y) (b - 1) x) from to (a + 1) (b - 1)
-reversing-next was now from to a b x y T h l ex ey =
+reversing-next {was} {now} {from} {to} {a} {b} {x} {y} T h l ex ey =
     record {
       long = length-set (set now a y) (b - 1) x ∙ length-set now a y ∙ T .long;
       meet = omega (arith, T .meet);

@@ -1,9 +1,11 @@
 -- The tables as a state: what is read off them.
---   is-reached, not-reached                 birth numbers and reached nodes
---   reached-is, unreached-is                the same, the other way round
---   base-at, reached-is-node                a node's base; reached nodes are nodes
---   cleared                                 a table filled with zeros is clear
---   ArcBounds, arc-bounds                   an arc's number and ends, and the tables' lengths
+--   is-reached, not-reached            birth numbers and reached nodes
+--   reached-is, unreached-is           the same, the other way round
+--   base-at, reached-is-node           a node's base; reached nodes are nodes
+--   cleared                            a table filled with zeros is clear
+--   ArcBounds, arc-bounds              an arc's number and ends, and the tables' lengths
+--   tail-base, head-base               the bases of its ends
+--   arc-within, head-within            where what is done with an arc reads and writes
 use mathlib.Core.Path.{_≡_, refl, _∙_}
 use mathlib.Core.Bool.{true, false}
 use mathlib.Core.List.{List}
@@ -13,74 +15,102 @@ use lib.Dec.{ltb}
 use lib.ListN.{length, getD, List·getD-eq-default}
 use borrow.Author.Tests.{ltb-true, lt-ltb, ltb-false, le-ltb}
 use Rattle.formats.specs.Limits.{arcsMost, matePairsMost}
+use Rattle.counting.specs.Loops.{Mapped}
 use Rattle.counting.proofs.Booleans.{by-test, true-false}
 use Rattle.counting.proofs.Membership.{getD-default}
 use Rattle.skew.specs.Graph.{Graph, nodes}
-use Rattle.skew.specs.Search.{State}
-use Rattle.arcs.specs.Table.{graphOf}
-use Rattle.arcs.proofs.Tables.{in-arcs, tail-node, head-node}
-use Rattle.search.specs.State.{stateOf, StateHeld, SearchHeld, Clear}
-use Rattle.search.specs.Steps.{Mapped, zeroed}
+use Rattle.skew.specs.Paths.{tail, head}
+use Rattle.arcs.proofs.Tables.{in-arcs, tail-is, head-is, tail-node, head-node}
+use Rattle.search.specs.Tables.{Arcs, graph, Labels}
+use Rattle.search.specs.State.{stateIn, StateHeld, SearchHeld, Clear}
+use Rattle.search.specs.Steps.{HeadWithin, zeroed}
+use Rattle.search.specs.Queue.{ArcWithin}
 
-pub is-reached : (b : ℕ) → (b ≡ 0 → ⊥) → ltb 0 b ≡ true
+pub is-reached : (birth : ℕ) → (birth ≡ 0 → ⊥) → ltb 0 birth ≡ true
 is-reached zero n = absurd (n refl)
 is-reached (suc b) n = lt-ltb 0 (suc b) (omega arith)
 
-pub not-reached : (b : ℕ) → b ≡ 0 → ltb 0 b ≡ false
+pub not-reached : (birth : ℕ) → birth ≡ 0 → ltb 0 birth ≡ false
 not-reached b q = le-ltb 0 b (omega arith)
 
-pub reached-is : (b : ℕ) → ltb 0 b ≡ true → 0 < b
+pub reached-is : (birth : ℕ) → ltb 0 birth ≡ true → 0 < birth
 reached-is b q = ltb-true 0 b q
 
-pub unreached-is : (b : ℕ) → ltb 0 b ≡ false → b ≡ 0
+pub unreached-is : (birth : ℕ) → ltb 0 birth ≡ false → birth ≡ 0
 unreached-is b q = omega (arith, ltb-false 0 b q)
 
-module _ (g : Graph) (bs vs ss : List ℕ) (k : ℕ) (H : StateHeld g bs vs ss k) where
-  abbrev st : State
-  st = stateOf bs vs ss k
+module _ {g : Graph} {L : Labels} {k : ℕ} (H : StateHeld g L k) where
+  pub base-at : (v : ℕ) → v < nodes g → stateIn L k .base v ≡ getD (L .bases) (v / 2) 0
+  base-at v h = getD-default (L .bases) (v / 2) (v - v % 2) 0 (omega (arith, H .bases-long))
 
-  pub base-at : (v : ℕ) → v < nodes g → st .base v ≡ getD ss (v / 2) 0
-  base-at v h = getD-default ss (v / 2) (v - v % 2) 0 (omega (arith, H .bases-long))
-
-  pub reached-is-node : (v : ℕ) → st .reached v ≡ true → v < nodes g
+  pub reached-is-node : (v : ℕ) → stateIn L k .reached v ≡ true → v < nodes g
   reached-is-node v l =
-      by-test (ltb v (length bs)) (λ t. omega (arith, H .births-long, ltb-true v (length bs) t))
-      (λ t. true-false l (not-reached (getD bs v 0) (List·getD-eq-default bs 0 (ltb-false v (length bs) t))))
+      by-test (ltb v (length (L .births))) (λ t. omega (arith, H .births-long, ltb-true v (length (L .births)) t))
+      (λ t. true-false l (not-reached (getD (L .births) v 0) (List·getD-eq-default (L .births) 0 (ltb-false v (length (L .births)) t))))
 
-pub cleared : (g : Graph) (ms ms′ : List ℕ) → length ms ≡ nodes g → Mapped zeroed ms ms′ (length ms) → Clear g ms′
-cleared g ms ms′ l M =
+pub cleared : {marks marks′ : List ℕ} → Mapped zeroed marks marks′ (length marks) → Clear (length marks) marks′
+cleared {marks} M =
     record {
-      long = M .long ∙ l;
+      long = M .long;
       zeros = λ u.
-          by-test (ltb u (length ms)) (λ t. M .done u (ltb-true u (length ms) t))
-          (λ t. let h = ltb-false u (length ms) t in M .rest u h ∙ List·getD-eq-default ms 0 h);
+          by-test (ltb u (length marks)) (λ t. M .done u (ltb-true u (length marks) t))
+          (λ t. let h = ltb-false u (length marks) t in M .rest u h ∙ List·getD-eq-default marks 0 h);
     }
 
 -- AN ARC'S BOUNDS
-pub record ArcBounds (n i : ℕ) (ts hs bs vs ss : List ℕ) : Type 0 where
-  pub in-tails : i < length ts
-  pub in-heads : i < length hs
+pub record ArcBounds (T : Arcs) (L : Labels) (i : ℕ) : Type 0 where
+  pub in-tails : i < length (T .tails)
+  pub in-heads : i < length (T .heads)
   pub small : i < arcsMost
-  pub tail-node : getD ts i 0 < 2 * n
-  pub head-node : getD hs i 0 < 2 * n
-  pub pairs-few : n ≤ matePairsMost
-  pub births-long : length bs ≡ 2 * n
-  pub vias-long : length vs ≡ 2 * n
-  pub bases-long : length ss ≡ n
+  pub tail-low : getD (T .tails) i 0 < 2 * T .pairs
+  pub head-low : getD (T .heads) i 0 < 2 * T .pairs
+  pub pairs-few : T .pairs ≤ matePairsMost
+  pub births-long : length (L .births) ≡ 2 * T .pairs
+  pub vias-long : length (L .vias) ≡ 2 * T .pairs
+  pub bases-long : length (L .bases) ≡ T .pairs
 
-pub arc-bounds : (n s : ℕ) (ts hs bs vs ss : List ℕ) (k i : ℕ) → SearchHeld n s ts hs bs vs ss k → i < length (graphOf n s ts hs .arcs) →
-    ArcBounds n i ts hs bs vs ss
-arc-bounds n s ts hs bs vs ss k i S h =
-    let T = S .table in
-    let l = in-arcs n s ts hs i h in
-    record {
-      in-tails = l;
-      in-heads = omega (arith, T .as-long);
-      small = omega (arith, T .arcs-few);
-      tail-node = tail-node n s ts hs T i l;
-      head-node = head-node n s ts hs T i l;
-      pairs-few = T .pairs-few;
-      births-long = S .state .births-long;
-      vias-long = S .state .vias-long;
-      bases-long = S .state .bases-long;
-    }
+module _ {T : Arcs} {L : Labels} {k i : ℕ} (S : SearchHeld T L k) (is-arc : i < length (graph T .arcs)) where
+  pub arc-bounds : ArcBounds T L i
+  arc-bounds =
+      let l = in-arcs (S .table) i is-arc in
+      record {
+        in-tails = l;
+        in-heads = omega (arith, S .table .as-long);
+        small = omega (arith, S .table .arcs-few);
+        tail-low = tail-node (S .table) i l;
+        head-low = head-node (S .table) i l;
+        pairs-few = S .table .pairs-few;
+        births-long = S .state .births-long;
+        vias-long = S .state .vias-long;
+        bases-long = S .state .bases-long;
+      }
+
+  pub tail-base : stateIn L k .base (tail (graph T) i) ≡ getD (L .bases) (getD (T .tails) i 0 / 2) 0
+  tail-base = rw (tail-is (S .table) i is-arc) (base-at (S .state) (getD (T .tails) i 0) (arc-bounds .tail-low))
+
+  pub head-base : stateIn L k .base (head (graph T) i) ≡ getD (L .bases) (getD (T .heads) i 0 / 2) 0
+  head-base = rw (head-is (S .table) i is-arc) (base-at (S .state) (getD (T .heads) i 0) (arc-bounds .head-low))
+
+  pub arc-within : ArcWithin (T .tails) (T .heads) L i
+  arc-within =
+      let B = arc-bounds in
+      record {
+        in-tails = B .in-tails;
+        in-heads = B .in-heads;
+        small = B .small;
+        head-in-births = omega (arith, B .births-long, B .head-low);
+        tail-in-bases = omega (arith, B .bases-long, B .tail-low);
+        head-in-bases = omega (arith, B .bases-long, B .head-low);
+        tail-in-vias = omega (arith, S .state .base-node (getD (T .tails) i 0 / 2) (omega (arith, B .tail-low)), B .vias-long);
+        head-in-vias = omega (arith, S .state .base-node (getD (T .heads) i 0 / 2) (omega (arith, B .head-low)), B .vias-long);
+      }
+
+  pub head-within : HeadWithin (T .heads) L i
+  head-within =
+      let B = arc-bounds in
+      record {
+        is-arc = B .in-heads;
+        in-births = omega (arith, B .births-long, B .head-low);
+        in-vias = omega (arith, B .vias-long, B .head-low);
+        in-bases = omega (arith, B .bases-long, B .head-low);
+      }

@@ -1,9 +1,9 @@
 -- Path restoration: the path that the labels give, written into a lent table of arc numbers.
---   Route g bs vs stop v p          p is the path that the labels give from stop to v
---   LabelTable n s ts hs bs vs      labels that rest on nodes with smaller birth numbers
---   Restorable ..                   there is such a path, with room for it from place `at` on
---   Restored ..                     it was written; r is the place after it
---   MateReversed was now a b        the arcs from place a to b in the opposite order, each arc's mate for the arc
+--   Route g births vias stop v p         p is the path that the labels give from stop to v
+--   LabelTable T births vias             labels that rest on nodes with smaller birth numbers
+--   Restorable T births vias stop v at size    there is such a path, with room for it from place `at` on
+--   Restored ts hs births vias stop v at out out′ r    it was written; r is the place after it
+--   MateReversed was now a b             the arcs from place a to b in the opposite order, each arc's mate for the arc
 use mathlib.Core.Path.{_≡_}
 use mathlib.Core.Logic.{_⊎_}
 use mathlib.Core.Bool.{true}
@@ -14,28 +14,31 @@ use lib.ListN.{length, getD}
 use lib.Seq.{sets}
 use Rattle.skew.specs.Graph.{Graph, mate}
 use Rattle.skew.specs.Segments.{Seg}
-use Rattle.arcs.specs.Table.{graphOf, ArcTable}
+use Rattle.arcs.specs.Table.{ArcTable}
+use Rattle.search.specs.Tables.{Arcs, graph, EveryGraph}
 
 abbrev pub Route : Graph → (births vias : List ℕ) → (stop v : ℕ) → List ℕ → Type 0
-Route g bs vs = Seg g (λ (u : ℕ). ltb 0 (getD bs u 0)) (λ (u : ℕ). getD vs u 0)
+Route g births vias = Seg g (λ (u : ℕ). ltb 0 (getD births u 0)) (λ (u : ℕ). getD vias u 0)
 
-pub record LabelTable (n s : ℕ) (ts hs bs vs : List ℕ) : Type 0 where
-  pub table : ArcTable n s ts hs
-  pub births-long : length bs ≡ 2 * n
-  pub vias-long : length vs ≡ 2 * n
-  pub tail-earlier : (v : ℕ) → ltb 0 (getD bs v 0) ≡ true → getD vs v 0 < length ts → getD bs (getD ts (getD vs v 0) 0) 0 < getD bs v 0
-  pub head-earlier : (v : ℕ) → ltb 0 (getD bs v 0) ≡ true → getD vs v 0 < length ts →
-      (getD hs (getD vs v 0) 0 ≡ v) ⊎ (getD bs (mate (getD hs (getD vs v 0) 0)) 0 < getD bs v 0)
+pub record LabelTable (T : Arcs) (births vias : List ℕ) : Type 0 where
+  pub table : ArcTable (T .pairs) (T .source) (T .tails) (T .heads)
+  pub births-long : length births ≡ 2 * T .pairs
+  pub vias-long : length vias ≡ 2 * T .pairs
+  pub tail-earlier : (v : ℕ) → ltb 0 (getD births v 0) ≡ true → getD vias v 0 < length (T .tails) →
+      getD births (getD (T .tails) (getD vias v 0) 0) 0 < getD births v 0
+  pub head-earlier : (v : ℕ) → ltb 0 (getD births v 0) ≡ true → getD vias v 0 < length (T .tails) →
+      (getD (T .heads) (getD vias v 0) 0 ≡ v) ⊎ (getD births (mate (getD (T .heads) (getD vias v 0) 0)) 0 < getD births v 0)
 
-pub record Restorable (n s : ℕ) (ts hs bs vs : List ℕ) (stop v at size : ℕ) : Type 0 where
-  pub labels : LabelTable n s ts hs bs vs
+pub record Restorable (T : Arcs) (births vias : List ℕ) (stop v at size : ℕ) : Type 0 where
+  pub labels : LabelTable T births vias
   pub path : List ℕ
-  pub route : Route (graphOf n s ts hs) bs vs stop v path
+  pub route : Route (graph T) births vias stop v path
   pub room : at + length path ≤ size
 
-abbrev pub Restored : (n s : ℕ) (ts hs bs vs : List ℕ) (stop v at : ℕ) (out out′ : List ℕ) (r : ℕ) → Type 0
-Restored n s ts hs bs vs stop v at out out′ r =
-    (p : List ℕ) → Route (graphOf n s ts hs) bs vs stop v p → (r ≡ at + length p) × (out′ ≡ sets out at p)
+abbrev pub Restored : (tails heads births vias : List ℕ) (stop v at : ℕ) (out out′ : List ℕ) (r : ℕ) → Type 0
+Restored ts hs births vias stop v at out out′ r =
+    EveryGraph ts hs (λ (T : Arcs).
+    (p : List ℕ) → Route (graph T) births vias stop v p → (r ≡ at + length p) × (out′ ≡ sets out at p))
 
 pub record MateReversed (was now : List ℕ) (from to : ℕ) : Type 0 where
   pub long : length now ≡ length was

@@ -10,17 +10,18 @@ ghost use Prim.Native.Nat.{_*_, _≤_, _<_};
 ghost use mathlib.Core.Path.{_≡_};
 ghost use lib.Dec.{ltb};
 ghost use lib.ListN.{length};
-ghost use Rattle.arcs.specs.Table.{graphOf, ArcTable};
-ghost use Rattle.search.specs.State.{Clear};
-ghost use Rattle.search.specs.Steps.{Mapped};
-ghost use Rattle.search.specs.Answer.{PathSought, reachedFlag, flagsBy, Explored, Searched, Answered};
-use crate::classes::classes;
+ghost use Rattle.counting.specs.Loops.{Mapped};
+ghost use Rattle.arcs.specs.Table.{tableGraph, ArcTable};
+ghost use Rattle.search.specs.Tables.{arcs, graph, labels};
+ghost use Rattle.search.specs.Queue.{Blank};
+ghost use Rattle.search.specs.Answer.{PathSought, reachedFlag, flagsBy, Explored, PathOrReached, PathOrClasses};
+use crate::classes::fill_classes;
+use crate::queue::search;
 use crate::restore::restore;
-use crate::search::search;
 use arcs::node::mate_of;
 use formats::limits::MATE_PAIRS_MOST;
 
-pub enum Answer {
+pub enum Sought {
     // The number of the path's arcs.
     Path(usize),
     // There is no regular path from the source to its mate.
@@ -29,7 +30,6 @@ pub enum Answer {
 
 // A path's arcs go to the front of `path`, which nothing else touches.
 fn find_path(
-    pairs: usize,
     source: usize,
     tails: &[u8],
     heads: &[u8],
@@ -39,30 +39,18 @@ fn find_path(
     mark: &mut [usize],
     queue: &mut [usize],
     path: &mut [usize],
-) -> Answer
-    requires { ⌜ ArcTable pairs source (now tails) (now heads) ⌝ }
-    requires { ⌜ Clear (graphOf pairs source (now tails) (now heads)) (now birth) × Clear (graphOf pairs source (now tails) (now heads)) (now mark) ⌝ }
-    requires { ⌜ (length (now via) ≡ 2 * pairs) × (length (now base) ≡ pairs) × (length (now queue) ≡ 2 * pairs) ⌝ }
-    requires { ⌜ 2 * pairs ≤ length (now path) ⌝ }
-    ensures { λ r. ⌜ PathSought pairs source (now (tails .entry)) (now (heads .entry)) r (now (path .entry)) (now (path .exit)) (now (birth .exit)) (now (via .exit)) (now (base .exit)) (now (mark .exit)) ⌝ }
+) -> Sought
+    requires { ⌜ ArcTable (length (now base)) source (now tails) (now heads) ⌝ }
+    requires { ⌜ Blank (length (now base)) (now birth) (now via) (now mark) (now queue) ⌝ }
+    requires { ⌜ 2 * length (now base) ≤ length (now path) ⌝ }
+    ensures { λ r. ⌜ PathSought (arcs (length (now (base .entry))) source (now (tails .entry)) (now (heads .entry))) r (now (path .entry)) (now (path .exit)) (labels (now (birth .exit)) (now (via .exit)) (now (base .exit))) (now (mark .exit)) ⌝ }
 {
-    if search(pairs, source, tails, heads, birth, via, base, mark, queue) {
+    if search(source, tails, heads, birth, via, base, mark, queue) {
         let goal = mate_of(source);
-        let count = restore(
-            pairs,
-            source,
-            tails,
-            heads,
-            birth,
-            via,
-            source,
-            goal,
-            path,
-            0,
-        );
-        return Answer::Path(count);
+        let count = restore(tails, heads, birth, via, source, goal, path, 0);
+        return Sought::Path(count);
     }
-    Answer::NoPath
+    Sought::NoPath
 }
 
 fn reached_flag(birth: usize) -> u8
@@ -79,7 +67,7 @@ fn tell_reached(birth: &[usize], reached: &mut [u8])
     ensures { λ _. ⌜ Mapped (flagsBy (now (birth .entry))) (now (reached .entry)) (now (reached .exit)) (length (now (reached .entry))) ⌝ }
 {
     let mut v: usize = 0;
-    // invariant: specs/Steps Mapped flagsBy; falls: nodes left
+    // invariant: counting Loops Mapped flagsBy; falls: nodes left
     while v < reached.len() {
         reached[v] = reached_flag(birth[v]);
         v += 1;
@@ -88,7 +76,6 @@ fn tell_reached(birth: &[usize], reached: &mut [u8])
 
 // Where there is no path, the canonical barrier goes into the class table and the reached nodes into theirs, of the tables that are lent.
 fn answer_in(
-    pairs: usize,
     source: usize,
     tails: &[u8],
     heads: &[u8],
@@ -100,34 +87,22 @@ fn answer_in(
     class: &mut [u8],
     reached: &mut [u8],
     path: &mut [usize],
-) -> Answer
-    requires { ⌜ ArcTable pairs source (now tails) (now heads) ⌝ }
-    requires { ⌜ Clear (graphOf pairs source (now tails) (now heads)) (now birth) × Clear (graphOf pairs source (now tails) (now heads)) (now mark) ⌝ }
-    requires { ⌜ (length (now via) ≡ 2 * pairs) × (length (now base) ≡ pairs) × (length (now queue) ≡ 2 * pairs) ⌝ }
-    requires { ⌜ (0 < length (now class) → length (now class) ≡ 2 * pairs) × (length (now reached) ≤ 2 * pairs) ⌝ }
-    requires { ⌜ 2 * pairs ≤ length (now path) ⌝ }
-    ensures { λ r. ⌜ Explored (graphOf pairs source (now (tails .entry)) (now (heads .entry))) r (now (path .entry)) (now (path .exit)) (now (class .entry)) (now (class .exit)) (now (reached .entry)) (now (reached .exit)) ⌝ }
+) -> Sought
+    requires { ⌜ ArcTable (length (now base)) source (now tails) (now heads) ⌝ }
+    requires { ⌜ Blank (length (now base)) (now birth) (now via) (now mark) (now queue) ⌝ }
+    requires { ⌜ (0 < length (now class) → length (now class) ≡ 2 * length (now base)) × (length (now reached) ≤ 2 * length (now base)) ⌝ }
+    requires { ⌜ 2 * length (now base) ≤ length (now path) ⌝ }
+    ensures { λ r. ⌜ Explored (graph (arcs (length (now (base .entry))) source (now (tails .entry)) (now (heads .entry)))) r (now (path .entry)) (now (path .exit)) (now (class .entry)) (now (class .exit)) (now (reached .entry)) (now (reached .exit)) ⌝ }
 {
-    let answer = find_path(
-        pairs,
-        source,
-        tails,
-        heads,
-        birth,
-        via,
-        base,
-        mark,
-        queue,
-        path,
-    );
-    let Answer::NoPath = answer else {
+    let answer = find_path(source, tails, heads, birth, via, base, mark, queue, path);
+    let Sought::NoPath = answer else {
         return answer;
     };
     tell_reached(birth, reached);
     if 0 < class.len() {
-        classes(pairs, source, tails, heads, birth, via, base, mark, class);
+        fill_classes(tails, birth, via, base, mark, class);
     }
-    Answer::NoPath
+    Sought::NoPath
 }
 
 // The state's tables are small and live here, once for both calls: at fixed places they are reached with fewer instructions than lent ones.
@@ -139,11 +114,11 @@ fn explore(
     class: &mut [u8],
     reached: &mut [u8],
     path: &mut [usize],
-) -> Answer
+) -> Sought
     requires { ⌜ ArcTable pairs source (now tails) (now heads) ⌝ }
     requires { ⌜ (0 < length (now class) → length (now class) ≡ 2 * pairs) × (length (now reached) ≤ 2 * pairs) ⌝ }
     requires { ⌜ 2 * pairs ≤ length (now path) ⌝ }
-    ensures { λ r. ⌜ Explored (graphOf pairs source (now (tails .entry)) (now (heads .entry))) r (now (path .entry)) (now (path .exit)) (now (class .entry)) (now (class .exit)) (now (reached .entry)) (now (reached .exit)) ⌝ }
+    ensures { λ r. ⌜ Explored (tableGraph pairs source (now (tails .entry)) (now (heads .entry))) r (now (path .entry)) (now (path .exit)) (now (class .entry)) (now (class .exit)) (now (reached .entry)) (now (reached .exit)) ⌝ }
 {
     let mut birth = [0usize; 256];
     let mut via = [0usize; 256];
@@ -152,7 +127,6 @@ fn explore(
     let mut queue = [0usize; 256];
     let nodes = 2 * pairs;
     answer_in(
-        pairs,
         source,
         tails,
         heads,
@@ -175,10 +149,10 @@ pub fn path_or_reached(
     heads: &[u8],
     reached: &mut [u8],
     path: &mut [usize],
-) -> Answer
+) -> Sought
     requires { ⌜ ArcTable pairs source (now tails) (now heads) ⌝ }
     requires { ⌜ (length (now reached) ≡ 2 * pairs) × (2 * pairs ≤ length (now path)) ⌝ }
-    ensures { λ r. ⌜ Searched (graphOf pairs source (now (tails .entry)) (now (heads .entry))) r (now (path .entry)) (now (path .exit)) (now (reached .entry)) (now (reached .exit)) ⌝ }
+    ensures { λ r. ⌜ PathOrReached (tableGraph pairs source (now (tails .entry)) (now (heads .entry))) r (now (path .entry)) (now (path .exit)) (now (reached .entry)) (now (reached .exit)) ⌝ }
 {
     let mut none = [0u8; 0];
     explore(pairs, source, tails, heads, &mut none, reached, path)
@@ -192,10 +166,10 @@ pub fn path_or_barrier(
     heads: &[u8],
     class: &mut [u8],
     path: &mut [usize],
-) -> Answer
+) -> Sought
     requires { ⌜ ArcTable pairs source (now tails) (now heads) ⌝ }
     requires { ⌜ (length (now class) ≡ 2 * pairs) × (2 * pairs ≤ length (now path)) ⌝ }
-    ensures { λ r. ⌜ Answered (graphOf pairs source (now (tails .entry)) (now (heads .entry))) r (now (path .entry)) (now (path .exit)) (now (class .entry)) (now (class .exit)) ⌝ }
+    ensures { λ r. ⌜ PathOrClasses (tableGraph pairs source (now (tails .entry)) (now (heads .entry))) r (now (path .entry)) (now (path .exit)) (now (class .entry)) (now (class .exit)) ⌝ }
 {
     let mut none = [0u8; 0];
     explore(pairs, source, tails, heads, class, &mut none, path)

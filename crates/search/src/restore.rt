@@ -4,6 +4,7 @@
 ghost use Prim.Native.Nat.{ℕ, _≤_, _<_};
 ghost use lib.ListN.{length, getD};
 ghost use Rattle.formats.specs.Limits.{arcsMost};
+ghost use Rattle.search.specs.Tables.{Arcs, SomeGraph};
 ghost use Rattle.search.specs.Restore.{Restorable, Restored, MateReversed};
 use arcs::node::mate_of;
 use arcs::node::wide;
@@ -27,10 +28,8 @@ fn mate_reverse(arcs: &mut [usize], from: usize, to: usize)
 }
 
 // Writes the path from stop to v, from place `at` on: to the tail of v's label, over the arc, and then, unless the arc's head is v, along the mates of
-// the path from v's mate to the head's mate. The place after it.
+// the path from v's mate to the head's mate. The place after it. No instruction reads the birth numbers: they are what falls from call to call.
 pub fn restore(
-    pairs: usize,
-    source: usize,
     tails: &[u8],
     heads: &[u8],
     birth: &[usize],
@@ -40,8 +39,8 @@ pub fn restore(
     arcs: &mut [usize],
     at: usize,
 ) -> usize
-    requires { ⌜ Restorable pairs source (now tails) (now heads) (now birth) (now via) stop v at (length (now arcs)) ⌝ }
-    ensures { λ r. ⌜ Restored pairs source (now (tails .entry)) (now (heads .entry)) (now (birth .entry)) (now (via .entry)) stop v at (now (arcs .entry)) (now (arcs .exit)) r ⌝ }
+    requires { ⌜ SomeGraph (now tails) (now heads) (λ (T : Arcs). Restorable T (now birth) (now via) stop v at (length (now arcs))) ⌝ }
+    ensures { λ r. ⌜ Restored (now (tails .entry)) (now (heads .entry)) (now (birth .entry)) (now (via .entry)) stop v at (now (arcs .entry)) (now (arcs .exit)) r ⌝ }
 {
     if v == stop {
         return at;
@@ -49,14 +48,14 @@ pub fn restore(
     let e = via[v];
     let x = wide(tails[e]);
     let y = wide(heads[e]);
-    let a = restore(pairs, source, tails, heads, birth, via, stop, x, arcs, at);
+    let a = restore(tails, heads, birth, via, stop, x, arcs, at);
     arcs[a] = e;
     if y == v {
         return a + 1;
     }
     let m = mate_of(v);
     let w = mate_of(y);
-    let b = restore(pairs, source, tails, heads, birth, via, m, w, arcs, a + 1);
+    let b = restore(tails, heads, birth, via, m, w, arcs, a + 1);
     mate_reverse(arcs, a + 1, b);
     b
 }

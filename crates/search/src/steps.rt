@@ -7,19 +7,17 @@
 //   ascend          from the two ends of an arc up to the base that absorbs the others
 //   bud_step        a bud is formed: the absorbed fragments are reached and get its base
 ghost use mathlib.Core.Path.{_≡_};
-ghost use Prim.Native.Nat.{ℕ, _+_, _*_, _<_};
+ghost use Prim.Native.Nat.{ℕ, _*_, _<_};
 ghost use lib.ListN.{length, getD};
-ghost use Rattle.arcs.specs.Table.{graphOf};
-ghost use Rattle.search.specs.State.{stateOf, SearchHeld, Clear};
-ghost use Rattle.search.specs.Steps.{Mapped, birthAfter, baseAfter, birthsAfter, basesAfter, zeroed, NewHead, TreeStepped, Bridging, labelled, Absorbs, Absorbed, Ascended, BudStepped};
+ghost use Rattle.counting.specs.Loops.{Mapped};
+ghost use Rattle.search.specs.Tables.{Arcs, labels, SomeGraph, EveryGraph};
+ghost use Rattle.search.specs.State.{Clear};
+ghost use Rattle.search.specs.Steps.{HeadWithin, headReached, birthAfter, baseAfter, birthsAfter, basesAfter, zeroed, Bridging, labelled, Absorbs, Absorbed, Ascended, BudStepped};
 use arcs::node::mate_of;
 use arcs::node::wide;
 
 // The arc's head is reached.
 pub fn tree_step(
-    pairs: usize,
-    source: usize,
-    tails: &[u8],
     heads: &[u8],
     birth: &mut [usize],
     via: &mut [usize],
@@ -27,9 +25,8 @@ pub fn tree_step(
     clock: usize,
     i: usize,
 )
-    requires { ⌜ SearchHeld pairs source (now tails) (now heads) (now birth) (now via) (now base) clock ⌝ }
-    requires { ⌜ NewHead (graphOf pairs source (now tails) (now heads)) (stateOf (now birth) (now via) (now base) clock) i ⌝ }
-    ensures { λ _. ⌜ TreeStepped (graphOf pairs source (now (tails .entry)) (now (heads .entry))) i (stateOf (now (birth .entry)) (now (via .entry)) (now (base .entry)) clock) (now (birth .exit)) (now (via .exit)) (now (base .exit)) (clock + 1) ⌝ }
+    requires { ⌜ HeadWithin (now heads) (labels (now birth) (now via) (now base)) i ⌝ }
+    ensures { λ _. ⌜ labels (now (birth .exit)) (now (via .exit)) (now (base .exit)) ≡ headReached (now (heads .entry)) (labels (now (birth .entry)) (now (via .entry)) (now (base .entry))) clock i ⌝ }
 {
     let w = wide(heads[i]);
     birth[w] = clock;
@@ -66,7 +63,7 @@ fn reach_absorbed(birth: &mut [usize], base: &[usize], mark: &[usize], clock: us
     ensures { λ _. ⌜ Mapped (birthsAfter (now (base .entry)) (now (mark .entry)) clock) (now (birth .entry)) (now (birth .exit)) (length (now (birth .entry))) ⌝ }
 {
     let mut v: usize = 0;
-    // invariant: specs/Steps Mapped birthsAfter; falls: nodes left
+    // invariant: counting Loops Mapped birthsAfter; falls: nodes left
     while v < birth.len() {
         let b = base[v / 2];
         birth[v] = birth_after(birth[v], mark[b], clock);
@@ -80,7 +77,7 @@ fn rebase_absorbed(base: &mut [usize], mark: &[usize], to: usize)
     ensures { λ _. ⌜ Mapped (basesAfter (now (mark .entry)) to) (now (base .entry)) (now (base .exit)) (length (now (base .entry))) ⌝ }
 {
     let mut k: usize = 0;
-    // invariant: specs/Steps Mapped basesAfter; falls: mate pairs left
+    // invariant: counting Loops Mapped basesAfter; falls: mate pairs left
     while k < base.len() {
         let b = base[k];
         base[k] = base_after(b, mark[b], to);
@@ -92,7 +89,7 @@ fn clear(mark: &mut [usize])
     ensures { λ _. ⌜ Mapped zeroed (now (mark .entry)) (now (mark .exit)) (length (now (mark .entry))) ⌝ }
 {
     let mut k: usize = 0;
-    // invariant: specs/Steps Mapped zeroed; falls: places left
+    // invariant: counting Loops Mapped zeroed; falls: places left
     while k < mark.len() {
         mark[k] = 0;
         k += 1;
@@ -119,8 +116,8 @@ fn absorb(
     q: usize,
     e: usize,
 ) -> usize
-    requires { ⌜ Absorbs (now tails) (now birth) (now via) (now base) (now mark) q e ⌝ }
-    ensures { λ r. ⌜ Absorbed (now (tails .entry)) (now (birth .entry)) (now (via .entry)) (now (base .entry)) (now (mark .entry)) q e (now (via .exit)) (now (mark .exit)) r ⌝ }
+    requires { ⌜ Absorbs (now tails) (labels (now birth) (now via) (now base)) (now mark) q e ⌝ }
+    ensures { λ r. ⌜ Absorbed (now (tails .entry)) (labels (now (birth .entry)) (now (via .entry)) (now (base .entry))) (now (mark .entry)) q e (now (via .exit)) (now (mark .exit)) r ⌝ }
 {
     mark[q] = 1;
     label(birth, via, mate_of(q), e);
@@ -131,21 +128,17 @@ fn absorb(
 
 // Two ends start at the bases of the arc's tail and of its head's mate; the one with the later base goes up, until both stand at one base.
 fn ascend(
-    pairs: usize,
-    source: usize,
     tails: &[u8],
     heads: &[u8],
     birth: &[usize],
     via: &mut [usize],
     base: &[usize],
     mark: &mut [usize],
-    clock: usize,
     i: usize,
 ) -> usize
-    requires { ⌜ SearchHeld pairs source (now tails) (now heads) (now birth) (now via) (now base) clock ⌝ }
-    requires { ⌜ Bridging (graphOf pairs source (now tails) (now heads)) (stateOf (now birth) (now via) (now base) clock) i ⌝ }
-    requires { ⌜ Clear (graphOf pairs source (now tails) (now heads)) (now mark) ⌝ }
-    ensures { λ r. ⌜ Ascended (graphOf pairs source (now (tails .entry)) (now (heads .entry))) (stateOf (now (birth .entry)) (now (via .entry)) (now (base .entry)) clock) i (now (via .exit)) (now (mark .exit)) r ⌝ }
+    requires { ⌜ SomeGraph (now tails) (now heads) (λ (T : Arcs). (k : ℕ) × Bridging T (labels (now birth) (now via) (now base)) k i) ⌝ }
+    requires { ⌜ Clear (length (now birth)) (now mark) ⌝ }
+    ensures { λ r. ⌜ EveryGraph (now (tails .entry)) (now (heads .entry)) (λ (T : Arcs). (k : ℕ) → Bridging T (labels (now (birth .entry)) (now (via .entry)) (now (base .entry))) k i → Ascended T (labels (now (birth .entry)) (now (via .entry)) (now (base .entry))) k i (now (via .exit)) (now (mark .exit)) r) ⌝ }
 {
     let j = mate_of(i);
     let v = wide(tails[i]);
@@ -168,8 +161,6 @@ fn ascend(
 
 // A bud is formed by an arc between reached nodes that is not settled.
 pub fn bud_step(
-    pairs: usize,
-    source: usize,
     tails: &[u8],
     heads: &[u8],
     birth: &mut [usize],
@@ -179,23 +170,12 @@ pub fn bud_step(
     clock: usize,
     i: usize,
 )
-    requires { ⌜ SearchHeld pairs source (now tails) (now heads) (now birth) (now via) (now base) clock ⌝ }
-    requires { ⌜ Bridging (graphOf pairs source (now tails) (now heads)) (stateOf (now birth) (now via) (now base) clock) i ⌝ }
-    requires { ⌜ Clear (graphOf pairs source (now tails) (now heads)) (now mark) ⌝ }
-    ensures { λ _. ⌜ BudStepped (graphOf pairs source (now (tails .entry)) (now (heads .entry))) i (stateOf (now (birth .entry)) (now (via .entry)) (now (base .entry)) clock) (now (birth .exit)) (now (via .exit)) (now (base .exit)) (now (mark .exit)) clock ⌝ }
+    requires { ⌜ SomeGraph (now tails) (now heads) (λ (T : Arcs). Bridging T (labels (now birth) (now via) (now base)) clock i) ⌝ }
+    requires { ⌜ Clear (length (now birth)) (now mark) ⌝ }
+    ensures { λ _. ⌜ EveryGraph (now (tails .entry)) (now (heads .entry)) (λ (T : Arcs). Bridging T (labels (now (birth .entry)) (now (via .entry)) (now (base .entry))) clock i → BudStepped T (labels (now (birth .entry)) (now (via .entry)) (now (base .entry))) clock i (labels (now (birth .exit)) (now (via .exit)) (now (base .exit)))) ⌝ }
+    ensures { λ _. ⌜ Clear (length (now (birth .entry))) (now (mark .exit)) ⌝ }
 {
-    let d = ascend(
-        pairs,
-        source,
-        tails,
-        heads,
-        birth,
-        via,
-        base,
-        mark,
-        clock,
-        i,
-    );
+    let d = ascend(tails, heads, birth, via, base, mark, i);
     reach_absorbed(birth, base, mark, clock);
     let m = mate_of(d);
     birth[m] = birth_after(birth[m], 1, clock);

@@ -131,7 +131,7 @@ module _ (g : Graph) (d : SkewSymmetric g) (st : State) (I : Invariant g st) (C 
           ⊎-elim (λ l. true-false l f)
           (λ m.
           let k : via′ u ≡ e = ap via′ (m .1) ∙ P .via-new (rw (m .1) at f) in
-          subst (λ (y : ℕ). ReachedEnds g st y) (sym k) (bridge-ends g d st I e v₀ z₀ B))
+          subst (λ (y : ℕ). ReachedEnds g st y) (sym k) (bridge-ends d I B))
           (I .whole c u base-c q)
 
   out-x : C′ (st .base x) ≡ false

@@ -19,8 +19,7 @@ use lib.Dec.{ltb, leb, eqb}
 use lib.ListN.{length, getD}
 use borrow.Author.Tests.{eqb-true, eqb-false, eq-eqb, ne-eqb, ltb-true, ltb-false, le-leb, leb-false}
 use Rattle.counting.specs.Tests.{all, upFrom, below}
-use Rattle.counting.specs.Pairs.{Pair, noPair}
-use Rattle.skew.specs.Graph.{Graph, mate, nodes, arcAt, isReachable, classAt, largestOf, mateClass, matesAgree, entriesInto, isXM, arcFits, isBarrier, classOf, classesFrom, canonical}
+use Rattle.skew.specs.Graph.{Arc, noArc, Graph, mate, nodes, arcAt, isReachable, classAt, largestOf, mateClass, matesAgree, entriesInto, isXM, arcFits, isBarrier, classOf, classesFrom, canonical}
 use Rattle.skew.specs.Paths.{tail, head, WellFormed}
 use Rattle.skew.specs.Barrier.{classesFit, isEntry, Barrier, EntryArc, NodeClass, in-X, in-A, in-A′, in-M}
 use Rattle.counting.proofs.Booleans.{and-two, and-five, and-both, or-right, or-cases, or-false-left, or-false-right, by-test, true-false, same-or}
@@ -59,14 +58,14 @@ fit-A-X k = rw (ne-eqb (3 + k) 2 (omega arith), ne-eqb (3 + k) 0 (omega arith))
 
 -- ENTRIES INTO A CLASS
 module _ (cs : List ℕ) (c : ℕ) where
-  pub entry-counted : (xs : List Pair) (i : ℕ) → i < length xs → isEntry cs c (getD xs i noPair) ≡ true → 1 ≤ entriesInto cs c xs
+  pub entry-counted : (xs : List Arc) (i : ℕ) → i < length xs → isEntry cs c (getD xs i noArc) ≡ true → 1 ≤ entriesInto cs c xs
   unfolding entriesInto
   entry-counted [] i h e = absurd (omega arith)
   entry-counted (x ∷ xs) zero h e = rw e (omega arith)
   entry-counted (x ∷ xs) (suc i) h e = omega (arith, entry-counted xs i (omega arith) e)
 
-  pub entry-unique : (xs : List Pair) (i j : ℕ) → i < length xs → j < length xs → isEntry cs c (getD xs i noPair) ≡ true →
-      isEntry cs c (getD xs j noPair) ≡ true → entriesInto cs c xs ≡ 1 → i ≡ j
+  pub entry-unique : (xs : List Arc) (i j : ℕ) → i < length xs → j < length xs → isEntry cs c (getD xs i noArc) ≡ true →
+      isEntry cs c (getD xs j noArc) ≡ true → entriesInto cs c xs ≡ 1 → i ≡ j
   unfolding entriesInto
   entry-unique [] i j h k e f n = absurd (omega arith)
   entry-unique (x ∷ xs) zero zero h k e f n = refl
@@ -75,14 +74,14 @@ module _ (cs : List ℕ) (c : ℕ) where
   entry-unique (x ∷ xs) (suc i) (suc j) h k e f n =
       ap suc (entry-unique xs i j (omega arith) (omega arith) e f (omega (arith, entry-counted xs i (omega arith) e)))
 
-  no-entry : (xs : List Pair) → ((i : ℕ) → i < length xs → isEntry cs c (getD xs i noPair) ≡ true → ⊥) → entriesInto cs c xs ≡ 0
+  no-entry : (xs : List Arc) → ((i : ℕ) → i < length xs → isEntry cs c (getD xs i noArc) ≡ true → ⊥) → entriesInto cs c xs ≡ 0
   unfolding entriesInto
   no-entry [] h = refl
   no-entry (x ∷ xs) h =
       by-test (isEntry cs c x) (λ t. absurd (h 0 (omega arith) t)) (λ t. rw t (omega (arith, no-entry xs (λ i l. h (suc i) (omega arith)))))
 
-  pub sole-entry : (xs : List Pair) (i : ℕ) → i < length xs → isEntry cs c (getD xs i noPair) ≡ true →
-      ((j : ℕ) → j < length xs → isEntry cs c (getD xs j noPair) ≡ true → j ≡ i) → entriesInto cs c xs ≡ 1
+  pub sole-entry : (xs : List Arc) (i : ℕ) → i < length xs → isEntry cs c (getD xs i noArc) ≡ true →
+      ((j : ℕ) → j < length xs → isEntry cs c (getD xs j noArc) ≡ true → j ≡ i) → entriesInto cs c xs ≡ 1
   unfolding entriesInto
   sole-entry [] i h e u = absurd (omega arith)
   sole-entry (x ∷ xs) zero h e u =
@@ -123,7 +122,7 @@ barrier g cs e =
     record {
       source-class = eqb-true _ _ (r .1);
       mate-class = λ v h. eqb-true _ _ (all-each (matesAgree cs) (below (nodes g)) (r .2) v (up-in 0 (nodes g) v (omega arith) (omega arith)));
-      arc-fits = λ i h. all-getD (arcFits cs) (g .arcs) noPair i (r .3) h;
+      arc-fits = λ i h. all-getD (arcFits cs) (g .arcs) noArc i (r .3) h;
       one-entry = λ c h l.
           ⊎-elim (λ q. absurd (omega (arith, ltb-true c 3 q))) (λ q. eqb-true _ _ q)
           (or-cases (ltb c 3) (eqb (entriesInto cs c (g .arcs)) 1)
@@ -137,7 +136,7 @@ barrier-test g cs e B =
     (and-both _ _
     (and-both _ _ (and-both _ _ (eq-eqb _ _ e) (eq-eqb _ _ (B .source-class)))
     (each-all (matesAgree cs) (below (nodes g)) (λ v m. eq-eqb _ _ (B .mate-class v (omega (arith, in-up 0 (nodes g) v m))))))
-    (getD-all (arcFits cs) (g .arcs) noPair (B .arc-fits)))
+    (getD-all (arcFits cs) (g .arcs) noArc (B .arc-fits)))
     (each-all (λ (c : ℕ). ltb c 3 || eqb (entriesInto cs c (g .arcs)) 1) (below (suc (largestOf cs)))
     (λ c m.
     by-test (ltb c 3) (λ t. rw t)

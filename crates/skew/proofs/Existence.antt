@@ -12,17 +12,15 @@ use borrow.Author.Tests.{eqb-true, eq-eqb, ne-eqb, leb-true, leb-false}
 use Rattle.counting.specs.Tests.{pick}
 use Rattle.skew.specs.Graph.{Graph, mate}
 use Rattle.skew.specs.Paths.{tail, head, SkewSymmetric, WellFormed}
-use Rattle.skew.specs.Search.{State, ReachedEnds, Invariant}
+use Rattle.skew.specs.Search.{State, parentBase, ReachedEnds, Invariant}
 use Rattle.skew.specs.Steps.{TreeStep, reachedAfter, BudStep, Settled, Touched, Closed}
 use Rattle.skew.specs.Measure.{total}
-use Rattle.skew.specs.Ascent.{Bridge, Unsettled, InAbsorbed, Ascent, AddsBase}
+use Rattle.skew.specs.Ascent.{Unsettled, InAbsorbed, AddsBase}
 use Rattle.counting.proofs.Booleans.{or-right, or-cases, pick-true, by-test, true-false, same-or}
 use Rattle.counting.proofs.Range.{some-or-each}
-use Rattle.skew.proofs.Mates.{mate-mate}
 use Rattle.skew.proofs.TreeStep.{tree-step-keeps}
 use Rattle.skew.proofs.BudStep.{bud-step-keeps}
-use Rattle.skew.proofs.Mirror.{bridge-mirror, ascent-mirror}
-use Rattle.skew.proofs.Ascent.{ascent-at, ascent-arc, ascent-absorb, ascent-same}
+use Rattle.skew.proofs.Ascent.{Climb, climb-start, climb-mirror, climb-end, climb-arc, climb-absorb, climb-same}
 use Rattle.skew.proofs.Settled.{settled-or}
 use Rattle.skew.proofs.Measure.{tree-step-less, bud-step-less}
 use Rattle.skew.proofs.Start.{start-keeps, startState, start-state-started}
@@ -100,9 +98,6 @@ module _ (st : State) (C : ℕ → Bool) (via : ℕ → ℕ) (c e : ℕ) where
   abbrev withVia : ℕ → ℕ
   withVia u = pick (eqb u (mate c) && not (st .reached u)) e (via u)
 
-  with-via-new : st .reached (mate c) ≡ false → withVia (mate c) ≡ e
-  with-via-new f = rw (eq-eqb (mate c) (mate c) refl, f)
-
   with-via-old : st .base (mate c) ≡ c → C c ≡ false → (u : ℕ) → (st .reached u ≡ true) ⊎ InAbsorbed st C u → withVia u ≡ via u
   with-via-old s o u (inl l) = by-test (eqb u (mate c)) (λ t. rw (t, l)) (λ t. rw t)
   with-via-old s o u (inr h) =
@@ -114,7 +109,7 @@ module _ (st : State) (C : ℕ → Bool) (via : ℕ → ℕ) (c e : ℕ) where
         here = rw (eq-eqb c c refl);
         old = λ k h. or-right (eqb k c) (C k) h;
         back = λ k h. ⊎-elim (λ q. inl (eqb-true k c q)) (λ q. inr q) (or-cases (eqb k c) (C k) h);
-        via-new = with-via-new;
+        via-new = λ f. rw (eq-eqb (mate c) (mate c) refl, f);
         via-old = with-via-old s o;
       }
 
@@ -134,55 +129,40 @@ module _ (g : Graph) (wf : WellFormed g) (st : State) (I : Invariant g st) where
       (new, tree-step-keeps g st I i h l f m new N, tree-step-less g wf st I i h l f m new N)
 
   -- THE BUD STEP: ascent until both ends stand in one fragment
-  base-mate : (u : ℕ) → st .reached u ≡ true → st .base (mate (st .base u)) ≡ st .base u
-  base-mate u l = I .base-mate (st .base u) ∙ I .base-base u l .self
-
-  ascend : (n : ℕ) (C : ℕ → Bool) (via : ℕ → ℕ) (e v₀ z₀ v z : ℕ) → Bridge g st e v₀ z₀ → Ascent g st C via e v₀ z₀ v z →
-      st .birth (st .base v) + st .birth (st .base z) < n → Next
-  ascend zero C via e v₀ z₀ v z B A h = absurd (omega arith)
-  ascend (suc n) C via e v₀ z₀ v z B A h = go (same-or (st .base v) (st .base z)) (ascend n)
+  ascend : (n : ℕ) (C : ℕ → Bool) (via : ℕ → ℕ) (e p q : ℕ) → Climb g st C via e p q → st .birth p + st .birth q < n → Next
+  ascend zero C via e p q A h = absurd (omega arith)
+  ascend (suc n) C via e p q A h = go (same-or p q) (ascend n)
     where
       Later : Type 0
-      Later =
-          (C : ℕ → Bool) (via : ℕ → ℕ) (e v₀ z₀ v z : ℕ) → Bridge g st e v₀ z₀ → Ascent g st C via e v₀ z₀ v z →
-          st .birth (st .base v) + st .birth (st .base z) < n → Next
+      Later = (C : ℕ → Bool) (via : ℕ → ℕ) (e p q : ℕ) → Climb g st C via e p q → st .birth p + st .birth q < n → Next
 
-      -- the end z has the later base
-      move : (e v₀ z₀ v z : ℕ) → Bridge g st e v₀ z₀ → Ascent g st C via e v₀ z₀ v z → st .base v ≢ st .base z →
-          st .birth (st .base v) ≤ st .birth (st .base z) → st .birth (st .base v) + st .birth (st .base z) < suc n → Later → Next
-      move e v₀ z₀ v z B A ne le h ih =
-          let c = st .base z in
-          let o = ascent-at g d st I C via e v₀ z₀ v z B A in
-          let P = adds-base st C via c e (base-mate z (o .reached-z)) (o .out-z) in
-          ih (withBase st C via c e) (withVia st C via c e) e v₀ z₀ v (tail g (st .via c)) B
-          (ascent-absorb g d st I C (withBase st C via c e) via (withVia st C via c e) e v₀ z₀ v z B A ne le P)
-          (omega (arith, ascent-arc g d st I C via e v₀ z₀ v z B A ne le .base-earlier))
+      adds : {e p q : ℕ} → Climb g st C via e p q → AddsBase st C via q e (withBase st C via q e) (withVia st C via q e)
+      adds {e} {q = q} A = let o = climb-end d I A in adds-base st C via q e (o .mate-in) (o .out)
 
-      go : (st .base v ≡ st .base z) ⊎ (st .base v ≢ st .base z) → Later → Next
+      -- the end at q has the later base
+      move : (e p q : ℕ) → Climb g st C via e p q → p ≢ q → st .birth p ≤ st .birth q → st .birth p + st .birth q < suc n → Later → Next
+      move e p q A ne le h ih =
+          ih (withBase st C via q e) (withVia st C via q e) e p (parentBase g st q) (climb-absorb d I A ne le (adds A))
+          (omega (arith, climb-arc d I A ne le .base-earlier))
+
+      go : (p ≡ q) ⊎ (p ≢ q) → Later → Next
       go (inl same) ih =
-          let b = st .base v in
-          let via′ = withVia st C via b e in
-          let o = ascent-at g d st I C via e v₀ z₀ v z B A in
-          let K =
-          ascent-same g d st I C via via′ e v₀ z₀ v z B A same (with-via-new st C via b e)
-          (with-via-old st C via b e (base-mate v (o .reached-v)) (o .out-v)) in
-          let new = budState st C b via′ in
-          let N = bud-state st C b via′ in
-          (new, bud-step-keeps g st I C b via′ (K .0) new N, bud-step-less g wf st I C b via′ (K .0) new N (K .1))
+          let via′ = withVia st C via q e in
+          let K = climb-same d I A same (adds A) in
+          let new = budState st C q via′ in
+          let N = bud-state st C q via′ in
+          (new, bud-step-keeps g st I C q via′ (K .0) new N, bud-step-less g wf st I C q via′ (K .0) new N (K .1))
       go (inr ne) ih =
-          by-test (leb (st .birth (st .base v)) (st .birth (st .base z))) (λ t. move e v₀ z₀ v z B A ne (leb-true _ _ t) h ih)
+          by-test (leb (st .birth p) (st .birth q)) (λ t. move e p q A ne (leb-true _ _ t) h ih)
           (λ t.
-          let lt = leb-false (st .birth (st .base v)) (st .birth (st .base z)) t in
-          move (mate e) z₀ v₀ z v (bridge-mirror g d st I e v₀ z₀ B) (ascent-mirror g d st I C via e v₀ z₀ v z A) (λ q. ne (sym q))
-          (omega arith) (omega arith) ih)
+          let lt = leb-false (st .birth p) (st .birth q) t in
+          move (mate e) q p (climb-mirror d I A) (λ r. ne (sym r)) (omega arith) (omega arith) ih)
 
   bud-next : (i : ℕ) → i < length (g .arcs) → ReachedEnds g st i → Unsettled g st i (tail g i) (mate (head g i)) → Next
   bud-next i h R U =
-      let v = tail g i in
-      let z = mate (head g i) in
-      ascend (suc (st .birth (st .base v) + st .birth (st .base z))) (λ (k : ℕ). false) (st .via) i v z v z
-      (record { is-arc = h; tail-is = refl; head-is = sym (mate-mate (head g i)); reached-v₀ = R .tail-reached; reached-z₀ = R .mate-reached })
-      (inl (record { v-is = refl; z-is = refl; none = λ k q. true-false q refl; via-old = λ u l. refl; unsettled = U })) (omega arith)
+      let p = st .base (tail g i) in
+      let q = st .base (mate (head g i)) in
+      ascend (suc (st .birth p + st .birth q)) (λ (k : ℕ). false) (st .via) i p q (climb-start h R U (λ k r. true-false r refl) refl refl) (omega arith)
 
   -- AN ARC asks for a step, or for none
   abbrev Quiet : ℕ → Type 0

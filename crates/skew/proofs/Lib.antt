@@ -1,4 +1,5 @@
 -- Laws of the theory, by subject; each file stands on those above it.
+--   Arcs               pairs of numbers as arcs
 --   Mates              mates of nodes and arcs
 --   Unmated            lists of arcs without mates
 --   Paths              paths as lists of arcs, and the tests of Graph
@@ -29,6 +30,7 @@
 --   Barrier            without a path the canonical classes are a barrier
 --   Entries            a graph without a path, read by its canonical barrier
 --   Promise            what is promised of every well-formed graph
+pub mod Arcs
 pub mod Mates
 pub mod Unmated
 pub mod Paths

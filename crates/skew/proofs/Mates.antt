@@ -15,8 +15,7 @@ use lib.Dec.{eqb}
 use lib.ListN.{length, getD}
 use borrow.Author.Tests.{eqb-true, eqb-false}
 use Rattle.counting.specs.Tests.{pick}
-use Rattle.counting.specs.Pairs.{Pair, noPair}
-use Rattle.skew.specs.Graph.{mate, areMates, matesFit}
+use Rattle.skew.specs.Graph.{Arc, noArc, mate, areMates, matesFit}
 use Rattle.counting.proofs.Booleans.{and-left, and-right, same-or}
 
 pub mate-is : (v : ℕ) → mate v ≡ v + 1 - 2 * (v % 2)
@@ -66,26 +65,26 @@ pub other-mate : (w u : ℕ) → (u ≢ w) × (u ≢ mate w) → (mate u ≢ w) 
 other-mate w u o = (λ q. o .1 (sym (mate-mate u) ∙ ap mate q), λ q. o .0 (mate-inj u w q))
 
 -- THE TEST matesFit
-pub record AreMates (x y : Pair) : Type 0 where
-  pub first : y .first ≡ mate (x .second)
-  pub second : y .second ≡ mate (x .first)
+pub record AreMates (x y : Arc) : Type 0 where
+  pub tail : y .tail ≡ mate (x .head)
+  pub head : y .head ≡ mate (x .tail)
 
-are-mates : (x y : Pair) → areMates x y ≡ true → AreMates x y
+are-mates : (x y : Arc) → areMates x y ≡ true → AreMates x y
 are-mates x y e =
     record {
-      first = eqb-true (y .first) (mate (x .second)) (and-left _ _ e);
-      second = eqb-true (y .second) (mate (x .first)) (and-right (eqb (y .first) (mate (x .second))) _ e);
+      tail = eqb-true (y .tail) (mate (x .head)) (and-left _ _ e);
+      head = eqb-true (y .head) (mate (x .tail)) (and-right (eqb (y .tail) (mate (x .head))) _ e);
     }
 
-are-mates-back : (x y : Pair) → AreMates x y → AreMates y x
+are-mates-back : (x y : Arc) → AreMates x y → AreMates y x
 are-mates-back x y h =
     record {
-      first = sym (mate-mate (x .first)) ∙ ap mate (sym (h .second));
-      second = sym (mate-mate (x .second)) ∙ ap mate (sym (h .first));
+      tail = sym (mate-mate (x .tail)) ∙ ap mate (sym (h .head));
+      head = sym (mate-mate (x .head)) ∙ ap mate (sym (h .tail));
     }
 
-pub arcs-mates : (xs : List Pair) → matesFit xs ≡ true → length xs % 2 ≡ 0 → (i : ℕ) → i < length xs →
-    AreMates (getD xs i noPair) (getD xs (mate i) noPair)
+pub arcs-mates : (xs : List Arc) → matesFit xs ≡ true → length xs % 2 ≡ 0 → (i : ℕ) → i < length xs →
+    AreMates (getD xs i noArc) (getD xs (mate i) noArc)
 unfolding matesFit
 arcs-mates [] f e i h = absurd (omega arith)
 arcs-mates (x ∷ []) f e i h = absurd (omega arith)

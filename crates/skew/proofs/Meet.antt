@@ -82,7 +82,7 @@ module _ (g : Graph) (d : SkewSymmetric g) (st : State) (I : Invariant g st) (C 
             ⊎-elim (λ t. subst (λ (y : ℕ). ReachedEnds g st y) (sym (via-old u (inr t))) (E .via-new u t f))
             (λ q.
             let m : via′ u ≡ e = ap via′ q ∙ via-new (rw q at f) in
-            subst (λ (y : ℕ). ReachedEnds g st y) (sym m) (bridge-ends g d st I e v₀ z₀ B))
+            subst (λ (y : ℕ). ReachedEnds g st y) (sym m) (bridge-ends d I B))
             k;
         base-is = base-b;
         out = E .out-v;

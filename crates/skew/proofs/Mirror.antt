@@ -50,13 +50,13 @@ reverse-bridge e dv dz =
     ap (λ (l : List ℕ). (l ++ mate e ∷ []) ++ reverseMap mate dv) (reverse-twice mate dz mate-mate) ∙
     append-assoc dz (mate e ∷ []) (reverseMap mate dv)
 
-module _ (g : Graph) (d : SkewSymmetric g) (st : State) (I : Invariant g st) where
-  pub bridge-ends : (e v₀ z₀ : ℕ) → Bridge g st e v₀ z₀ → ReachedEnds g st e
-  bridge-ends e v₀ z₀ B =
+module _ {g : Graph} (d : SkewSymmetric g) {st : State} (I : Invariant g st) where
+  pub bridge-ends : {e v₀ z₀ : ℕ} → Bridge g st e v₀ z₀ → ReachedEnds g st e
+  bridge-ends {z₀ = z₀} B =
       record { tail-reached = rw (B .tail-is) (B .reached-v₀); mate-reached = rw (B .head-is, mate-mate z₀) (B .reached-z₀) }
 
-  pub bridge-mirror : (e v₀ z₀ : ℕ) → Bridge g st e v₀ z₀ → Bridge g st (mate e) z₀ v₀
-  bridge-mirror e v₀ z₀ B =
+  pub bridge-mirror : {e v₀ z₀ : ℕ} → Bridge g st e v₀ z₀ → Bridge g st (mate e) z₀ v₀
+  bridge-mirror {e} {z₀ = z₀} B =
       let r = mate-arc g d e (B .is-arc) in
       record {
         is-arc = r .0;
@@ -66,7 +66,24 @@ module _ (g : Graph) (d : SkewSymmetric g) (st : State) (I : Invariant g st) whe
         reached-z₀ = B .reached-v₀;
       }
 
-  module _ (C : ℕ → Bool) (via : ℕ → ℕ) (e v₀ z₀ v z : ℕ) where
+  ends-mirror : {C : ℕ → Bool} {via : ℕ → ℕ} {v₀ z₀ v z : ℕ} {dv dz : List ℕ} → Ends g st C via v₀ z₀ v z dv dz → Ends g st C via z₀ v₀ z v dz dv
+  ends-mirror E =
+      record {
+        bases = E .bases;
+        not-source = E .not-source;
+        birth-v = E .birth-z;
+        birth-z = E .birth-v;
+        out-v = E .out-z;
+        out-z = E .out-v;
+        reached-v = E .reached-z;
+        reached-z = E .reached-v;
+        via-old = E .via-old;
+        via-new = E .via-new;
+        seg-v = E .seg-z;
+        seg-z = E .seg-v;
+      }
+
+  module _ {C : ℕ → Bool} {via : ℕ → ℕ} {e v₀ z₀ v z : ℕ} where
     none-mirror : NoneAbsorbed g st C via e v₀ z₀ v z → NoneAbsorbed g st C via (mate e) z₀ v₀ z v
     none-mirror A =
         record {
@@ -82,23 +99,6 @@ module _ (g : Graph) (d : SkewSymmetric g) (st : State) (I : Invariant g st) whe
               };
         }
 
-    ends-mirror : (dv dz : List ℕ) → Ends g st C via v₀ z₀ v z dv dz → Ends g st C via z₀ v₀ z v dz dv
-    ends-mirror dv dz E =
-        record {
-          bases = E .bases;
-          not-source = E .not-source;
-          birth-v = E .birth-z;
-          birth-z = E .birth-v;
-          out-v = E .out-z;
-          out-z = E .out-v;
-          reached-v = E .reached-z;
-          reached-z = E .reached-v;
-          via-old = E .via-old;
-          via-new = E .via-new;
-          seg-v = E .seg-z;
-          seg-z = E .seg-v;
-        }
-
     some-mirror : SomeAbsorbed g st C via e v₀ z₀ v z → SomeAbsorbed g st C via (mate e) z₀ v₀ z v
     unfolding through-mirror
     some-mirror A =
@@ -106,7 +106,7 @@ module _ (g : Graph) (d : SkewSymmetric g) (st : State) (I : Invariant g st) whe
         record {
           dv = A .dz;
           dz = A .dv;
-          ends = ends-mirror (A .dv) (A .dz) (A .ends);
+          ends = ends-mirror (A .ends);
           some = A .some;
           through = through-mirror d (λ x h. rw (I .base-mate x) h) T;
           arcs =

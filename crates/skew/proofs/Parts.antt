@@ -15,8 +15,7 @@ use lib.ListN.{length}
 use borrow.Author.Tests.{eqb-true, eq-eqb, ltb-true, ltb-false}
 use Rattle.counting.specs.Tests.{any, among}
 use Rattle.counting.specs.Lists.{In, Within, Distinct}
-use Rattle.counting.specs.Pairs.{Pair, noPair}
-use Rattle.skew.specs.Graph.{Graph, joinsIn, partOnce, partBy, leastOf}
+use Rattle.skew.specs.Graph.{Arc, noArc, Graph, joinsIn, partOnce, partBy, leastOf}
 use Rattle.skew.specs.Paths.{tail, head}
 use Rattle.skew.specs.Parts.{Adjacent, PartClosed}
 use Rattle.counting.proofs.Booleans.{and-two, or-right, or-cases, by-test, true-false}
@@ -41,13 +40,13 @@ module _ (g : Graph) where
   adjacent-elim Q there back v w (i, h, inr e) =
       subst (λ (z : ℕ). Q v z) (e .0) (subst (λ (z : ℕ). Q z (tail g i)) (e .1) (back i h))
 
-  abbrev isBetween : (v w : ℕ) → Pair → Bool
-  isBetween v w x = (eqb (x .first) v && eqb (x .second) w) || (eqb (x .first) w && eqb (x .second) v)
+  abbrev isBetween : (v w : ℕ) → Arc → Bool
+  isBetween v w x = (eqb (x .tail) v && eqb (x .head) w) || (eqb (x .tail) w && eqb (x .head) v)
 
   joins-adjacent : (v w : ℕ) → joinsIn g v w ≡ true → Adjacent g v w
   unfolding Adjacent
   joins-adjacent v w e =
-      let r = any-getD (isBetween v w) (g .arcs) noPair e in
+      let r = any-getD (isBetween v w) (g .arcs) noArc e in
       let i = r .0 in (
         i,
         r .1,
@@ -59,7 +58,7 @@ module _ (g : Graph) where
   adjacent-joins : (v w : ℕ) → Adjacent g v w → joinsIn g v w ≡ true
   unfolding Adjacent
   adjacent-joins v w (i, h, t) =
-      getD-any (isBetween v w) (g .arcs) noPair i h
+      getD-any (isBetween v w) (g .arcs) noArc i h
       (⊎-elim (λ e. rw (eq-eqb (tail g i) v (e .0), eq-eqb (head g i) w (e .1)))
       (λ e.
       or-right (eqb (tail g i) v && eqb (head g i) w) _ (rw (eq-eqb (tail g i) w (e .0), eq-eqb (head g i) v (e .1))))

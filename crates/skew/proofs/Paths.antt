@@ -113,7 +113,7 @@ module _ (g : Graph) (d : SkewSymmetric g) where
       (mate i < length (g .arcs)) × (tail g (mate i) ≡ mate (head g i)) × (head g (mate i) ≡ mate (tail g i))
   mate-arc i h =
       let r = arcs-mates (g .arcs) (d .mates-fit) (d .even) i h in
-      (mate-below i (length (g .arcs)) (d .even) h, r .first, r .second)
+      (mate-below i (length (g .arcs)) (d .even) h, r .tail, r .head)
 
   pub joins-reverse : (a v : ℕ) (p : List ℕ) → Joins g a v p → Joins g (mate v) (mate a) (reverseMap mate p)
   joins-reverse a v [] j = ap mate (sym j)

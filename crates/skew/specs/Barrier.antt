@@ -10,15 +10,14 @@ use mathlib.Core.List.{List}
 use Prim.Native.Nat.{ℕ, _+_, _≤_, _<_}
 use lib.Dec.{eqb}
 use lib.ListN.{length}
-use Rattle.counting.specs.Pairs.{Pair}
-use Rattle.skew.specs.Graph.{Graph, mate, nodes, isReachable, classAt, largestOf, mateClass, entriesInto, isXM, partNumber, classOf}
+use Rattle.skew.specs.Graph.{Arc, Graph, mate, nodes, isReachable, classAt, largestOf, mateClass, entriesInto, isXM, partNumber, classOf}
 use Rattle.skew.specs.Paths.{tail, head}
 
 abbrev pub classesFit : (from to : ℕ) → Bool
 classesFit a b = not (isXM a && isXM b && not (eqb a b)) && not (eqb a 1 && (eqb b 2 || eqb b 0))
 
-abbrev pub isEntry : (classes : List ℕ) → (class : ℕ) → Pair → Bool
-isEntry cs c x = eqb (classAt cs (x .first)) 1 && eqb (classAt cs (x .second)) c
+abbrev pub isEntry : (classes : List ℕ) → (class : ℕ) → Arc → Bool
+isEntry cs c x = eqb (classAt cs (x .tail)) 1 && eqb (classAt cs (x .head)) c
 
 -- document 000's (B2), (B3) and (B4), (B6) to (B8), (B5); (B1) as a node has one class
 pub record Barrier (g : Graph) (cs : List ℕ) : Type 0 where

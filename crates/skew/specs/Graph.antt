@@ -1,5 +1,8 @@
 -- Doubled (skew-symmetric) graphs, regular paths, barriers and the canonical barrier (document 01, "The graph" and "The barrier"; document 000,
 -- section 2; the definitions are document 03's).
+--   Arc, arc v w                               an arc: its tail and its head; the one from v to w
+--   noArc                                      the arc of zeros, read past a list's end
+--   arcOf x, arcsOf xs                         a pair of numbers as an arc, its first the tail, its second the head; each pair of a list
 --   Graph                                      mate pairs of nodes, the source, and arcs in file order
 --   mate v, nodes g, arcAt g i                 the mate of a node or an arc; how many nodes there are; the arc i
 --   areMates x y, matesFit xs                  two arcs are mates; each odd-numbered arc is the mate of the one before
@@ -28,13 +31,31 @@ use Prim.Native.Nat.{ℕ, zero, suc, _+_, _*_, _-_, _%_}
 use lib.Dec.{ltb, leb, eqb}
 use lib.ListN.{length, getD}
 use Rattle.counting.specs.Tests.{pick, all, any, among, below, noneTwice, keep}
-use Rattle.counting.specs.Pairs.{Pair, noPair}
+use Rattle.counting.specs.Pairs.{Pair}
+
+-- AN ARC: the node that it leaves, and the one that it leads to
+pub record Arc : Type 0 where
+  pub tail : ℕ
+  pub head : ℕ
+
+abbrev pub arc : (tail head : ℕ) → Arc
+arc v w = record { tail = v; head = w }
+
+abbrev pub noArc : Arc
+noArc = arc 0 0
+
+abbrev pub arcOf : Pair → Arc
+arcOf x = arc (x .first) (x .second)
+
+unfoldable pub arcsOf : List Pair → List Arc
+arcsOf [] = []
+arcsOf (x ∷ xs) = arcOf x ∷ arcsOf xs
 
 -- A GRAPH: mate pairs of nodes, the source, and arcs in file order
 pub record Graph : Type 0 where
   pub pairs : ℕ
   pub source : ℕ
-  pub arcs : List Pair
+  pub arcs : List Arc
 
 -- the lowest bit flipped
 abbrev pub mate : ℕ → ℕ
@@ -43,29 +64,29 @@ mate v = pick (eqb (v % 2) 0) (v + 1) (v - 1)
 abbrev pub nodes : Graph → ℕ
 nodes g = 2 * g .pairs
 
-abbrev pub arcAt : Graph → (arc : ℕ) → Pair
-arcAt g i = getD (g .arcs) i noPair
+abbrev pub arcAt : Graph → (arc : ℕ) → Arc
+arcAt g i = getD (g .arcs) i noArc
 
 -- from v to w: its mate goes from the mate of w to the mate of v
-abbrev pub areMates : Pair → Pair → Bool
-areMates x y = eqb (y .first) (mate (x .second)) && eqb (y .second) (mate (x .first))
+abbrev pub areMates : Arc → Arc → Bool
+areMates x y = eqb (y .tail) (mate (x .head)) && eqb (y .head) (mate (x .tail))
 
-unfoldable pub matesFit : List Pair → Bool
+unfoldable pub matesFit : List Arc → Bool
 matesFit [] = true
 matesFit (x ∷ []) = true
 matesFit (x ∷ y ∷ rest) = areMates x y && matesFit rest
 
-abbrev pub hasTwoEnds : Pair → Bool
-hasTwoEnds x = not (eqb (x .first) (x .second))
+abbrev pub hasTwoEnds : Arc → Bool
+hasTwoEnds x = not (eqb (x .tail) (x .head))
 
 -- A REGULAR PATH as arc numbers: each starts where the one before ended; no node twice, no arc with its mate
 unfoldable pub nodesAlong : Graph → (from : ℕ) → (arcs : List ℕ) → List ℕ
 nodesAlong g v [] = v ∷ []
-nodesAlong g v (i ∷ is) = v ∷ nodesAlong g (arcAt g i .second) is
+nodesAlong g v (i ∷ is) = v ∷ nodesAlong g (arcAt g i .head) is
 
 unfoldable pub isJoined : Graph → (from : ℕ) → (arcs : List ℕ) → Bool
 isJoined g v [] = true
-isJoined g v (i ∷ is) = ltb i (length (g .arcs)) && eqb (arcAt g i .first) v && isJoined g (arcAt g i .second) is
+isJoined g v (i ∷ is) = ltb i (length (g .arcs)) && eqb (arcAt g i .tail) v && isJoined g (arcAt g i .head) is
 
 unfoldable pub noMates : (arcs : List ℕ) → Bool
 noMates [] = true
@@ -73,7 +94,7 @@ noMates (i ∷ is) = not (among (mate i) is) && noMates is
 
 unfoldable pub endOf : Graph → (from : ℕ) → (arcs : List ℕ) → ℕ
 endOf g v [] = v
-endOf g v (i ∷ is) = endOf g (arcAt g i .second) is
+endOf g v (i ∷ is) = endOf g (arcAt g i .head) is
 
 abbrev pub isRegular : Graph → (arcs : List ℕ) → Bool
 isRegular g is = isJoined g (g .source) is && noneTwice (nodesAlong g (g .source) is) && noMates is
@@ -88,8 +109,8 @@ reachesFrom (suc n) g v w ss us =
     eqb v w ||
     any
     (λ (i : ℕ).
-    eqb (arcAt g i .first) v && not (among (arcAt g i .second) ss) && not (among (mate i) us) &&
-    reachesFrom n g (arcAt g i .second) w (arcAt g i .second ∷ ss) (i ∷ us))
+    eqb (arcAt g i .tail) v && not (among (arcAt g i .head) ss) && not (among (mate i) us) &&
+    reachesFrom n g (arcAt g i .head) w (arcAt g i .head ∷ ss) (i ∷ us))
     (below (length (g .arcs)))
 
 abbrev pub isReachable : Graph → (node : ℕ) → Bool
@@ -116,20 +137,20 @@ mateClass c = pick (eqb c 1) 2 (pick (eqb c 2) 1 c)
 abbrev pub matesAgree : (classes : List ℕ) → (node : ℕ) → Bool
 matesAgree cs v = eqb (classAt cs (mate v)) (mateClass (classAt cs v))
 
-unfoldable pub entriesInto : (classes : List ℕ) → (class : ℕ) → List Pair → ℕ
+unfoldable pub entriesInto : (classes : List ℕ) → (class : ℕ) → List Arc → ℕ
 entriesInto cs c [] = 0
 entriesInto cs c (x ∷ xs) =
-    pick (eqb (classAt cs (x .first)) 1 && eqb (classAt cs (x .second)) c) 1 0 + entriesInto cs c xs
+    pick (eqb (classAt cs (x .tail)) 1 && eqb (classAt cs (x .head)) c) 1 0 + entriesInto cs c xs
 
 -- no arc between two different Xi, between an Xi and M, or from A into A' or M
 abbrev pub isXM : (class : ℕ) → Bool
 isXM c = isX c || eqb c 0
 
-abbrev pub arcFits : (classes : List ℕ) → Pair → Bool
+abbrev pub arcFits : (classes : List ℕ) → Arc → Bool
 arcFits cs x =
     not
-    (isXM (classAt cs (x .first)) && isXM (classAt cs (x .second)) && not (eqb (classAt cs (x .first)) (classAt cs (x .second)))) &&
-    not (eqb (classAt cs (x .first)) 1 && (eqb (classAt cs (x .second)) 2 || eqb (classAt cs (x .second)) 0))
+    (isXM (classAt cs (x .tail)) && isXM (classAt cs (x .head)) && not (eqb (classAt cs (x .tail)) (classAt cs (x .head)))) &&
+    not (eqb (classAt cs (x .tail)) 1 && (eqb (classAt cs (x .head)) 2 || eqb (classAt cs (x .head)) 0))
 
 abbrev pub isBarrier : Graph → (classes : List ℕ) → Bool
 isBarrier g cs =
@@ -141,7 +162,7 @@ abbrev pub inX : Graph → (node : ℕ) → Bool
 inX g v = isReachable g v && isReachable g (mate v)
 
 abbrev pub joinsIn : Graph → (one other : ℕ) → Bool
-joinsIn g v w = any (λ (x : Pair). (eqb (x .first) v && eqb (x .second) w) || (eqb (x .first) w && eqb (x .second) v)) (g .arcs)
+joinsIn g v w = any (λ (x : Arc). (eqb (x .tail) v && eqb (x .head) w) || (eqb (x .tail) w && eqb (x .head) v)) (g .arcs)
 
 unfoldable pub partOnce : Graph → (members : List ℕ) → (reached : List ℕ) → List ℕ
 partOnce g [] vs = vs

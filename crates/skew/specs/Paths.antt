@@ -16,10 +16,10 @@ use Rattle.counting.specs.Lists.{In, Within, Distinct}
 use Rattle.skew.specs.Graph.{Graph, mate, nodes, arcAt, matesFit, nodesAlong}
 
 abbrev pub tail : Graph → (arc : ℕ) → ℕ
-tail g i = arcAt g i .first
+tail g i = arcAt g i .tail
 
 abbrev pub head : Graph → (arc : ℕ) → ℕ
-head g i = arcAt g i .second
+head g i = arcAt g i .head
 
 abbrev pub Joins : Graph → (a v : ℕ) → List ℕ → Type 0
 Joins g a v [] = a ≡ v

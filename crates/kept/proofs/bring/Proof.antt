@@ -28,37 +28,11 @@ held c = stock-held (read c .read-stock .ensures) (c .if1 .left)
 returns : tie.Need-returns
 returns c = let a = c .before .before .before .before .before in call-refused (bring (start a .args .file .now)) (a .read-stock .ensures .says) (c .if1 .taken)
 
-array-share-prefix-firsts : tie.Need-array-share-prefix-firsts
-array-share-prefix-firsts c = held (c .before) .fitsRoom .first
-
-slice-aggregate-put-stock : tie.Need-slice-aggregate-put-stock
-slice-aggregate-put-stock c = sym (length-take-le _ _ (held (c .before .before) .fitsRoom .first))
-
-array-share-prefix-seconds : tie.Need-array-share-prefix-seconds
-array-share-prefix-seconds c = held (c .before .before) .fitsRoom .second
-
-slice-aggregate-put-stock-2 : tie.Need-slice-aggregate-put-stock-2
-slice-aggregate-put-stock-2 c = sym (length-take-le _ _ (held (c .before .before .before) .fitsRoom .second))
-
-put-stock-requires : tie.Need-put-stock-requires
-put-stock-requires c κs = let e = c .before .before .before in stock-small (held e) (none e)
-
-returns-2 : tie.Need-returns-2
-returns-2 c = let e = c .before .before .before .before in brought (held e) (none e) (c .put-stock .ensures)
-
 pub bring-spec : {M : Type 1} → statement M
 bring-spec =
     tie.close
-    (tie.spec
-    (λ c. search needs)
-    (λ c. search needs)
-    (λ c. search needs)
-    (λ c. search needs)
-    (λ c κs. search needs)
-    returns
-    array-share-prefix-firsts
-    slice-aggregate-put-stock
-    array-share-prefix-seconds
-    slice-aggregate-put-stock-2
-    put-stock-requires
-    returns-2)
+    (tie.spec (search needs) (search needs) (search needs) (search needs) (search needs) returns (λ c. held (c .before) .fits-room .first)
+    (λ c. sym (length-take-le _ _ (held (c .before .before) .fits-room .first))) (λ c. held (c .before .before) .fits-room .second)
+    (λ c. sym (length-take-le _ _ (held (c .before .before .before) .fits-room .second)))
+    (λ c κs. let e = c .before .before .before in stock-small (held e) (none e))
+    (λ c. let e = c .before .before .before .before in brought (held e) (none e) (c .put-stock .ensures)))

@@ -6,9 +6,6 @@ use borrow.Author.Needs.{needs}
 use Rattle.kept.proofs.come_back.Statement.{statement}
 use Rattle.kept.proofs.come_back.Tie as tie
 
-returns : tie.Need-returns
-returns c = let a = c .before .before .args in back-short (a .state .now) (a .name) (a .out .now) (c .if1 .taken)
-
 returns-2 : tie.Need-returns-2
 returns-2 c =
     let a = c .before .before .before .before .before .args in
@@ -23,13 +20,5 @@ returns-3 c =
 pub come-back-spec : {M : Type 1} → statement M
 come-back-spec =
     tie.close
-    (tie.spec
-    returns
-    (λ c κs. search needs)
-    (λ c κs. search needs)
-    returns-2
-    (λ c. search needs)
-    (λ c κs. search needs)
-    (λ c. search needs)
-    (λ c. search needs)
-    returns-3)
+    (tie.spec (λ c. let a = c .before .before .args in back-short (a .state .now) (a .name) (a .out .now) (c .if1 .taken)) (search needs)
+    (search needs) returns-2 (search needs) (search needs) (search needs) (search needs) returns-3)

@@ -25,18 +25,6 @@ returns c =
     let r = c .before .before .before in
     plan-faulty (start r .args .state .now) (start r .args .name) (r .before .before .before .before .before .before .before .before .before .cameras-in .ensures) (r .before .before .before .before .before .before .before .fits-in .ensures) (r .read-plan .ensures) (c .if1 .taken)
 
-array-share-prefix-firsts : tie.Need-array-share-prefix-firsts
-array-share-prefix-firsts c = held (c .before) .room .first
-
-slice-aggregate-store : tie.Need-slice-aggregate-store
-slice-aggregate-store c = sym (length-take-le _ _ (held (c .before .before) .room .first))
-
-array-share-prefix-seconds : tie.Need-array-share-prefix-seconds
-array-share-prefix-seconds c = held (c .before .before) .room .second
-
-slice-aggregate-store-2 : tie.Need-slice-aggregate-store-2
-slice-aggregate-store-2 c = sym (length-take-le _ _ (held (c .before .before .before) .room .second))
-
 store-requires : tie.Need-store-requires
 store-requires c κs =
     let e = c .before .before .before in
@@ -52,22 +40,7 @@ returns-2 c =
 pub keep-spec : {M : Type 1} → statement M
 keep-spec =
     tie.close
-    (tie.spec
-    (λ c κs. search needs)
-    (λ c κs. search needs)
-    (λ c. search needs)
-    (λ c. search needs)
-    (λ c. search needs)
-    (λ c. search needs)
-    (λ c. search needs)
-    (λ c. search needs)
-    (λ c. search needs)
-    (λ c. search needs)
-    (λ c κs. search needs)
-    returns
-    array-share-prefix-firsts
-    slice-aggregate-store
-    array-share-prefix-seconds
-    slice-aggregate-store-2
-    store-requires
+    (tie.spec (search needs) (search needs) (search needs) (search needs) (search needs) (search needs) (search needs) (search needs) (search needs)
+    (search needs) (search needs) returns (λ c. held (c .before) .room .first) (λ c. sym (length-take-le _ _ (held (c .before .before) .room .first)))
+    (λ c. held (c .before .before) .room .second) (λ c. sym (length-take-le _ _ (held (c .before .before .before) .room .second))) store-requires
     returns-2)

@@ -5,18 +5,6 @@ use Rattle.lanes_print.proofs.Printing.{budget-prints}
 use Rattle.lanes_print.proofs.print_budget.Statement.{statement}
 use Rattle.lanes_print.proofs.print_budget.Tie as tie
 
-most-said-requires : tie.Need-most-said-requires
-most-said-requires c κs = search needs
-
-budget-by-requires : tie.Need-budget-by-requires
-budget-by-requires c κs = search needs
-
-show-requires : tie.Need-show-requires
-show-requires c κs = search needs
-
-same-length : tie.Need-same-length
-same-length c = search needs
-
 returns : tie.Need-returns
 returns c =
     let b = c .before .before .before .before .before .before .before in
@@ -25,11 +13,4 @@ returns c =
     budget-prints _ (a .file .now) (omega arith) (rw said at (b .budget-by .ensures .owes)) (c .before .before .show .ensures)
 
 pub print-budget-spec : {M : Type 1} → statement M
-print-budget-spec =
-    tie.close
-    (tie.spec
-    most-said-requires
-    budget-by-requires
-    show-requires
-    same-length
-    returns)
+print-budget-spec = tie.close (tie.spec (search needs) (search needs) (search needs) (search needs) returns)

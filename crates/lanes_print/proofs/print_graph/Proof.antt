@@ -5,17 +5,8 @@ use Rattle.lanes_print.proofs.Printing.{graph-prints}
 use Rattle.lanes_print.proofs.print_graph.Statement.{statement}
 use Rattle.lanes_print.proofs.print_graph.Tie as tie
 
-answer-graph-by-requires : tie.Need-answer-graph-by-requires
-answer-graph-by-requires c κs = search needs
-
-show-requires : tie.Need-show-requires
-show-requires c κs = search needs
-
-same-length : tie.Need-same-length
-same-length c = search needs
-
 returns : tie.Need-returns
 returns c = graph-prints (c .before .before .before .before .before .before .before .before .before .before .args .file .now) (omega arith) (c .before .before .before .before .before .before .answer-graph-by .ensures .owes) (c .before .before .show .ensures)
 
 pub print-graph-spec : {M : Type 1} → statement M
-print-graph-spec = tie.close (tie.spec answer-graph-by-requires show-requires same-length returns)
+print-graph-spec = tie.close (tie.spec (search needs) (search needs) (search needs) returns)

@@ -5,17 +5,8 @@ use Rattle.lanes_print.proofs.Printing.{stock-prints}
 use Rattle.lanes_print.proofs.print_stock.Statement.{statement}
 use Rattle.lanes_print.proofs.print_stock.Tie as tie
 
-stock-by-requires : tie.Need-stock-by-requires
-stock-by-requires c κs = search needs
-
-show-requires : tie.Need-show-requires
-show-requires c κs = search needs
-
-same-length : tie.Need-same-length
-same-length c = search needs
-
 returns : tie.Need-returns
 returns c = stock-prints (c .before .before .before .before .before .before .before .before .before .before .args .file .now) (omega arith) (c .before .before .before .before .before .before .stock-by .ensures .owes) (c .before .before .show .ensures)
 
 pub print-stock-spec : {M : Type 1} → statement M
-print-stock-spec = tie.close (tie.spec stock-by-requires show-requires same-length returns)
+print-stock-spec = tie.close (tie.spec (search needs) (search needs) (search needs) returns)

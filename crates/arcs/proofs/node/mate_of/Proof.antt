@@ -5,12 +5,6 @@ use borrow.Author.Needs.{needs}
 use Rattle.arcs.proofs.node.mate_of.Statement.{statement}
 use Rattle.arcs.proofs.node.mate_of.Tie as tie
 
-add-result : tie.Need-add-result
-add-result c = search needs
-
-sub-result : tie.Need-sub-result
-sub-result c = search needs
-
 returns : tie.Need-returns
 returns c =
     let args = c .before .args in
@@ -22,4 +16,4 @@ returns-2 c =
     rw (ne-eqb (args .v % 2) 0 (c .if1 .left))
 
 pub mate-of-spec : {M : Type 1} → statement M
-mate-of-spec = tie.close (tie.spec add-result sub-result returns returns-2)
+mate-of-spec = tie.close (tie.spec (search needs) (search needs) returns returns-2)

@@ -6,7 +6,7 @@ use Rattle.formats.specs.Kinds.{pairKind}
 use Rattle.frames.specs.Frames.{frame6}
 use Rattle.frames.proofs.Writes.{frame6-length}
 use Rattle.files.specs.Answers.{Writing}
-use Rattle.files.proofs.AnswerLines.{writing-start, writing-step, writing-end}
+use Rattle.files.proofs.AnswerLines.{writing-start, writing-next, writing-end}
 use borrow.Author.Needs.{needs}
 use Rattle.files.proofs.answers.put_pairs.Statement.{statement}
 use Rattle.files.proofs.answers.put_pairs.Tie as tie
@@ -17,36 +17,14 @@ Inv-loop out₀ at firsts seconds next₀ i₀ out next i = Writing (λ (i : ℕ
 abbrev μ-loop : tie.MeasureT-loop
 μ-loop out₀ at firsts seconds next₀ i₀ out next i = length firsts - i
 
-loop-holds : tie.Need-loop-holds Inv-loop μ-loop
-loop-holds c = writing-start _ _ _ _
-
-cast-put-frame6 : tie.Need-cast-put-frame6 Inv-loop μ-loop
-cast-put-frame6 c = omega (arith, c .shared-slice-known3 .given (c .before .before .before .loop .i))
-
-cast-put-frame6-2 : tie.Need-cast-put-frame6-2 Inv-loop μ-loop
-cast-put-frame6-2 c = omega (arith, c .shared-slice-known4 .given (c .before .before .before .before .loop .i))
-
 loop-again : tie.Need-loop-again Inv-loop μ-loop
 loop-again c =
-    writing-step (c .before .before .before .before .before .before .before .loop .inv) (c .before .before .before .before .before .before .loop-test .taken) (c .before .before .put-frame6 .ensures)
-
-returns : tie.Need-returns Inv-loop μ-loop
-returns c = writing-end (c .before .loop .inv) (λ i x. frame6-length pairKind x _) (c .loop-test .left)
+    writing-next (c .before .before .before .before .before .before .before .loop .inv) (c .before .before .before .before .before .before .loop-test .taken) (c .before .before .put-frame6 .ensures)
 
 pub put-pairs-spec : {M : Type 1} → statement M
 put-pairs-spec =
     tie.close
-    (tie.spec
-    Inv-loop
-    μ-loop
-    loop-holds
-    (λ c. search needs)
-    cast-put-frame6
-    (λ c. search needs)
-    cast-put-frame6-2
-    (λ c κs. search needs)
-    (λ c. search needs)
-    (λ c. search needs)
-    loop-again
-    (λ c. search needs)
-    returns)
+    (tie.spec Inv-loop μ-loop (λ c. writing-start _ _ _ _) (search needs)
+    (λ c. omega (arith, c .shared-slice-known3 .given (c .before .before .before .loop .i))) (search needs)
+    (λ c. omega (arith, c .shared-slice-known4 .given (c .before .before .before .before .loop .i))) (search needs) (search needs) (search needs)
+    loop-again (search needs) (λ c. writing-end (c .before .loop .inv) (λ i x. frame6-length pairKind x _) (c .loop-test .left)))

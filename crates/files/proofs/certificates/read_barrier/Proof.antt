@@ -6,44 +6,42 @@ use borrow.Author.Needs.{needs}
 use Rattle.files.proofs.certificates.read_barrier.Statement.{statement}
 use Rattle.files.proofs.certificates.read_barrier.Tie as tie
 
-returns : tie.Need-returns
-returns c = barrier-shape (c .before .before .barrier-shape .ensures) _ (c .before .if1 .taken) (c .told .ensures)
+-- PLACES: no question up to 8 refused, seen from the lines stored; those, seen from where they are asked
+abbrev sized : tie.After-store-pairs → tie.Else2
+sized c = c .before .before .before
 
-returns-2 : tie.Need-returns-2
-returns-2 c = barrier-size (c .before .before .before .barrier-shape .ensures) _ (c .before .before .if1 .left) (c .before .if2 .taken) (c .told2 .ensures)
+abbrev stored : tie.After-in-order → tie.After-store-pairs
+stored c = c .before .before .before .before .before .before .before
 
 store-pairs-requires : tie.Need-store-pairs-requires
-store-pairs-requires c κs = barrier-room (c .before .before .before .before .barrier-shape .ensures) _ (c .before .before .before .if1 .left) (c .before .before .if2 .left) (c .before .before .before .before .before .before .before .before .pre)
+store-pairs-requires c κs =
+    let e = c .before .before in
+    barrier-room (e .before .before .barrier-shape .ensures) _ (e .before .if1 .left) (e .if2 .left) (e .before .before .before .before .before .before .pre)
 
 in-order-requires : tie.Need-in-order-requires
-in-order-requires c κs = barrier-holds (c .before .before .before .before .before .before .before .before .before .before .before .barrier-shape .ensures) _ (c .before .before .before .before .before .before .before .before .before .before .if1 .left) (c .before .before .before .before .before .before .before .before .before .if2 .left) (c .before .before .before .before .before .before .store-pairs .ensures)
+in-order-requires c κs =
+    let s = c .before .before .before .before .before .before in
+    let e = sized s in
+    barrier-holds (e .before .before .barrier-shape .ensures) _ (e .before .if1 .left) (e .if2 .left) (s .store-pairs .ensures)
 
 returns-3 : tie.Need-returns-3
 returns-3 c =
+    let s = stored (c .before .before) in
+    let e = sized s in
     let order = sym (c .before .before .in-order .ensures) ∙ not-true _ (c .before .if3 .taken) in
-    barrier-read (c .before .before .before .before .before .before .before .before .before .before .before .before .before .before .barrier-shape .ensures) _ (c .before .before .before .before .before .before .before .before .before .before .before .before .before .if1 .left) (c .before .before .before .before .before .before .before .before .before .before .before .before .if2 .left) (c .before .before .before .before .before .before .before .before .before .store-pairs .ensures) (rw order) (c .told3 .ensures)
+    barrier-read (e .before .before .barrier-shape .ensures) _ (e .before .if1 .left) (e .if2 .left) (s .store-pairs .ensures) (rw order) (c .told3 .ensures)
 
 returns-4 : tie.Need-returns-4
 returns-4 c =
+    let s = stored (c .before .before) in
+    let e = sized s in
     let order = sym (c .before .before .in-order .ensures) ∙ not-false _ (c .before .if3 .left) in
-    barrier-read (c .before .before .before .before .before .before .before .before .before .before .before .before .before .before .barrier-shape .ensures) _ (c .before .before .before .before .before .before .before .before .before .before .before .before .before .if1 .left) (c .before .before .before .before .before .before .before .before .before .before .before .before .if2 .left) (c .before .before .before .before .before .before .before .before .before .store-pairs .ensures) (rw order) (c .told4 .ensures)
+    barrier-read (e .before .before .barrier-shape .ensures) _ (e .before .if1 .left) (e .if2 .left) (s .store-pairs .ensures) (rw order) (c .told4 .ensures)
 
 pub read-barrier-spec : {M : Type 1} → statement M
 read-barrier-spec =
     tie.close
-    (tie.spec
-    (λ c κs. search needs)
-    (λ c κs. search needs)
-    returns
-    (λ c κs. search needs)
-    returns-2
-    store-pairs-requires
-    in-order-requires
-    (λ c κs. search needs)
-    (λ c. search needs)
-    (λ c. search needs)
-    returns-3
-    (λ c κs. search needs)
-    (λ c. search needs)
-    (λ c. search needs)
-    returns-4)
+    (tie.spec (search needs) (search needs)
+    (λ c. barrier-shape (c .before .before .barrier-shape .ensures) _ (c .before .if1 .taken) (c .told .ensures)) (search needs)
+    (λ c. barrier-size (c .before .before .before .barrier-shape .ensures) _ (c .before .before .if1 .left) (c .before .if2 .taken) (c .told2 .ensures))
+    store-pairs-requires in-order-requires (search needs) (search needs) (search needs) returns-3 (search needs) (search needs) (search needs) returns-4)

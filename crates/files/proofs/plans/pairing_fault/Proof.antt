@@ -5,11 +5,8 @@ use borrow.Author.Needs.{needs}
 use Rattle.files.proofs.plans.pairing_fault.Statement.{statement}
 use Rattle.files.proofs.plans.pairing_fault.Tie as tie
 
-returns : tie.Need-returns
-returns c = rw (sym (c .before .are-named .ensures) ∙ not-true _ (c .if1 .taken))
-
-returns-2 : tie.Need-returns-2
-returns-2 c = rw (sym (c .before .before .are-named .ensures) ∙ not-false _ (c .before .if1 .left)) (c .lit-fault .ensures)
-
 pub pairing-fault-spec : {M : Type 1} → statement M
-pairing-fault-spec = tie.close (tie.spec (λ c κs. search needs) returns (λ c κs. search needs) returns-2)
+pairing-fault-spec =
+    tie.close
+    (tie.spec (search needs) (λ c. rw (sym (c .before .are-named .ensures) ∙ not-true _ (c .if1 .taken))) (search needs)
+    (λ c. rw (sym (c .before .before .are-named .ensures) ∙ not-false _ (c .before .if1 .left)) (c .lit-fault .ensures)))

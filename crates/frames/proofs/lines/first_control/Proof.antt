@@ -15,37 +15,11 @@ Inv-loop f at i₀ i = at + controlAt (drop at f) ≡ i + controlAt (drop i f)
 abbrev μ-loop : tie.MeasureT-loop
 μ-loop f at i₀ i = length f - i
 
-loop-holds : tie.Need-loop-holds Inv-loop μ-loop
-loop-holds c = refl
-
-returns : tie.Need-returns Inv-loop μ-loop
-returns c =
-    let a = c .before .before .before .before .args in
-    let l = c .before .before .before .loop in
-    sym (l .inv ∙ control-here (a .f .now) (l .i) (c .before .before .loop-test .taken) (c .if1 .taken))
-
-loop-again : tie.Need-loop-again Inv-loop μ-loop
-loop-again c =
-    let a = c .before .before .before .before .args in
-    let l = c .before .before .before .loop in
-    l .inv ∙ control-next (a .f .now) (l .i) (c .before .before .loop-test .taken) (c .if1 .left)
-
-returns-2 : tie.Need-returns-2 Inv-loop μ-loop
-returns-2 c =
-    let a = c .before .before .args in
-    let l = c .before .loop in
-    sym (l .inv ∙ control-over (a .f .now) (l .i) (c .loop-test .left))
-
 pub first-control-spec : {M : Type 1} → statement M
 first-control-spec =
     tie.close
-    (tie.spec
-    Inv-loop
-    μ-loop
-    loop-holds
-    (λ c. search needs)
-    returns
-    (λ c. search needs)
-    (λ c. search needs)
-    loop-again
-    returns-2)
+    (tie.spec Inv-loop μ-loop (λ c. refl) (search needs)
+    (λ c. let l = c .before .before in sym (l .before .loop .inv ∙ control-here _ (l .before .loop .i) (l .loop-test .taken) (c .if1 .taken)))
+    (search needs) (search needs)
+    (λ c. let l = c .before .before in l .before .loop .inv ∙ control-next _ (l .before .loop .i) (l .loop-test .taken) (c .if1 .left))
+    (λ c. sym (c .before .loop .inv ∙ control-over _ (c .before .loop .i) (c .loop-test .left))))

@@ -6,9 +6,6 @@ use borrow.Author.Needs.{needs}
 use Rattle.frames.proofs.numbers.digit_at.Statement.{statement}
 use Rattle.frames.proofs.numbers.digit_at.Tie as tie
 
-returns : tie.Need-returns
-returns c = simp (List·getD-eq-default (c .before .args .f .now) 0 (c .if1 .taken))
-
 returns-2 : tie.Need-returns-2
 returns-2 c = let x = getD (c .before .before .before .args .f .now) (c .before .before .before .args .at) 0 in simp (lt-leb 48 x (omega arith), lt-leb 65 x (omega arith))
 
@@ -27,4 +24,5 @@ returns-5 c =
 
 pub digit-at-spec : {M : Type 1} → statement M
 digit-at-spec =
-    tie.close (tie.spec returns (λ c. search needs) returns-2 returns-3 returns-4 returns-5)
+    tie.close
+    (tie.spec (λ c. simp (List·getD-eq-default (c .before .args .f .now) 0 (c .if1 .taken))) (search needs) returns-2 returns-3 returns-4 returns-5)

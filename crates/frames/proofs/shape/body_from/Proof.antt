@@ -4,8 +4,5 @@ use borrow.Author.Needs.{needs}
 use Rattle.frames.proofs.shape.body_from.Statement.{statement}
 use Rattle.frames.proofs.shape.body_from.Tie as tie
 
-returns : tie.Need-returns
-returns c = rw part-tail at (c .body-of .ensures)
-
 pub body-from-spec : {M : Type 1} → statement M
-body-from-spec = tie.close (tie.spec (λ c. search needs) (λ c. search needs) (λ c. search needs) (λ c κs. search needs) returns)
+body-from-spec = tie.close (tie.spec (search needs) (search needs) (search needs) (search needs) (λ c. rw part-tail at (c .body-of .ensures)))

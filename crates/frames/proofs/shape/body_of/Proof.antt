@@ -1,84 +1,62 @@
--- `frames::shape::body_of` meets its contract. The loop's invariant: what is left of both questions at `at`. The measure is what is left of the
--- lines.
-use mathlib.Core.Path.{_≡_, refl, sym, _∙_}
+-- `frames::shape::body_of` meets its contract. The loop's invariant: what is left answers as the whole. The measure is what is left of the lines.
+use mathlib.Core.Path.{_≡_, sym, _∙_}
 use mathlib.Core.Logic.{⊎-elim}
 use Prim.Native.Nat.{ℕ, _-_, _+_}
 use native.Mathlib.Omega.{arith}
-use lib.Dec.{eqb}
 use lib.ListN.{length}
-use borrow.Author.Tests.{not-true, not-false}
-use Rattle.counting.specs.Tests.{pick}
-use Rattle.frames.specs.Shape.{formOf}
-use Rattle.frames.proofs.BodyFrames.{BodyLeft, left-start, left-stay, left-turn, first-more, first-same, answer-end, answer-fail, answer-over}
+use borrow.Author.Tests.{eq-eqb, ne-eqb, not-true, not-false}
+use Rattle.counting.proofs.Booleans.{pick-true, pick-false}
+use Rattle.frames.proofs.BodyFrames.{BodyLeft, firstsPast, left-start, left-next, left-end, left-fails, left-none}
 use borrow.Author.Needs.{needs}
 use Rattle.frames.proofs.shape.body_of.Statement.{statement}
 use Rattle.frames.proofs.shape.body_of.Tie as tie
 
 abbrev Inv-loop : tie.InvT-loop
-Inv-loop g layout first second size at₀ count₀ firsts₀ kind₀ at count firsts kind =
-    BodyLeft (formOf layout) (layout .first) (layout .second) g at count firsts kind
+Inv-loop g layout first second size at₀ count₀ firsts₀ kind₀ at count firsts kind = BodyLeft layout g at count firsts kind
 
 abbrev μ-loop : tie.MeasureT-loop
 μ-loop g layout first second size at₀ count₀ firsts₀ kind₀ at count firsts kind = length g - at
 
--- past a body line, whichever kind it has
-next-line : (c : tie.Joined2 Inv-loop μ-loop) (m : ℕ) → m ≡ pick (eqb (c .if2 .kind) (c .before .before .before .before .before .before .before .args .layout .first)) 1 0 + c .before .before .before .before .before .loop .firsts →
-    BodyLeft (formOf (c .before .before .before .before .before .before .before .args .layout)) (c .before .before .before .before .before .before .before .args .layout .first) (c .before .before .before .before .before .before .before .args .layout .second) (c .before .before .before .before .before .before .before .args .g .now)
-    (c .before .before .before .line-at .result .next) (c .before .before .before .before .before .loop .count + 1) m (c .if2 .kind)
-next-line c m e =
-    let l = c .before .before .before .line-at .ensures in
-    let r = c .before .before .before .before .before .loop .inv in
-    ⊎-elim
-    (λ w.
-    rw (w .3)
-    (left-turn _ _ _ _ _ _ _ _ _ _ l r (omega arith) m (sym (c .before .is-frame .ensures) ∙ not-true _ (w .0 .taken))
-    (sym (w .1 .ensures) ∙ not-false _ (w .2 .left)) (rw (w .3) at e)))
-    (λ w. rw (w .1) (left-stay _ _ _ _ _ _ _ _ _ _ l r (omega arith) m (sym (c .before .is-frame .ensures) ∙ not-false _ (w .0 .left)) (rw (w .1) at e)))
-    (c .if2 .came)
+-- PLACES: the line at hand, seen from where its kind was asked; the loop and the start, seen from the line
+abbrev line : tie.After-is-frame Inv-loop μ-loop → tie.After-line-at Inv-loop μ-loop
+line c = c .before .before
 
-loop-holds : tie.Need-loop-holds Inv-loop μ-loop
-loop-holds c = left-start _ _ _ _ refl
+abbrev at-loop : tie.After-line-at Inv-loop μ-loop → tie.At-loop Inv-loop μ-loop
+at-loop c = c .before .before
+
+abbrev start : tie.After-line-at Inv-loop μ-loop → tie.Start Inv-loop μ-loop
+start c = at-loop c .before .before
+
+-- past a body line, whichever kind it has
+next-line : (c : tie.Joined2 Inv-loop μ-loop) {m : ℕ} →
+    let l = line (c .before) in
+    m ≡ firstsPast (start l .args .layout) (c .if2 .kind) (at-loop l .loop .firsts) →
+    BodyLeft (start l .args .layout) (start l .args .g .now) (l .line-at .result .next) (at-loop l .loop .count + 1) m (c .if2 .kind)
+next-line c e =
+    let l = line (c .before) in
+    let framed = sym (c .before .is-frame .ensures) in
+    let past = left-next (at-loop l .loop .inv) (l .line-at .ensures) (omega arith) in
+    ⊎-elim
+    (λ w. past (w .3 ∙ sym (pick-false _ _ (framed ∙ not-true _ (w .0 .taken)))) (rw (w .3) (sym (w .1 .ensures) ∙ not-false _ (w .2 .left))) e)
+    (λ w. let t = framed ∙ not-false _ (w .0 .left) in past (w .1 ∙ sym (pick-true _ _ t)) (rw (w .1) t) e) (c .if2 .came)
 
 returns : tie.Need-returns Inv-loop μ-loop
 returns c =
-    answer-end _ _ (c .before .before .before .before .before .loop .inv) (c .before .before .before .line-at .ensures) refl (c .before .before .if1 .taken)
-    (c .before .end-fault .ensures) (c .told .ensures)
+    let l = c .before .before .before in
+    left-end (at-loop l .loop .inv) (l .line-at .ensures) (c .before .before .if1 .taken) (c .before .end-fault .ensures) (c .told .ensures)
 
 returns-2 : tie.Need-returns-2 Inv-loop μ-loop
 returns-2 c =
-    answer-fail _ _ (c .before .before .before .before .before .before .before .before .loop .inv) (c .before .before .before .before .before .before .line-at .ensures) (omega arith)
-    (sym (c .before .before .before .before .is-frame .ensures) ∙ not-true _ (c .before .before .before .if2 .taken)) (sym (c .before .before .is-frame2 .ensures) ∙ not-true _ (c .before .if3 .taken))
-    (c .told2 .ensures)
-
-loop-again : tie.Need-loop-again Inv-loop μ-loop
-loop-again c = next-line (c .before) _ (first-more _ _ _ (c .if4 .taken))
-
-loop-again-2 : tie.Need-loop-again-2 Inv-loop μ-loop
-loop-again-2 c = next-line (c .before) _ (first-same _ _ _ (c .if4 .left))
-
-returns-3 : tie.Need-returns-3 Inv-loop μ-loop
-returns-3 c = answer-over _ _ (c .before .before .loop .inv) (c .before .loop-test .left) (c .told3 .ensures)
+    let a = c .before .before in
+    let l = line (a .before .before) in
+    left-fails (at-loop l .loop .inv) (l .line-at .ensures) (omega arith) (sym (a .before .before .is-frame .ensures) ∙ not-true _ (a .before .if2 .taken))
+    (sym (a .is-frame2 .ensures) ∙ not-true _ (c .before .if3 .taken)) (c .told2 .ensures)
 
 pub body-of-spec : {M : Type 1} → statement M
 body-of-spec =
     tie.close
-    (tie.spec
-    Inv-loop
-    μ-loop
-    loop-holds
-    (λ c κs. omega arith)
-    (λ c κs. (omega arith, omega arith))
-    (λ c κs. search needs)
-    returns
-    (λ c κs. (omega arith, omega arith))
-    (λ c κs. (omega arith, omega arith))
-    (λ c κs. search needs)
-    returns-2
-    (λ c. omega arith)
-    (λ c. omega arith)
-    (λ c. omega arith)
-    loop-again
-    (λ c. omega arith)
-    loop-again-2
-    (λ c κs. search needs)
-    returns-3)
+    (tie.spec Inv-loop μ-loop (λ c. left-start _ _) (λ c κs. omega arith) (λ c κs. (omega arith, omega arith)) (search needs) returns
+    (λ c κs. (omega arith, omega arith)) (λ c κs. (omega arith, omega arith)) (search needs) returns-2 (λ c. omega arith) (λ c. omega arith)
+    (λ c. omega arith) (λ c. next-line (c .before) (sym (pick-true _ _ (eq-eqb _ _ (c .if4 .taken))))) (λ c. omega arith)
+    (λ c. next-line (c .before) (sym (pick-false _ _ (ne-eqb _ _ (c .if4 .left))))) (search needs)
+    (λ c. left-none (c .before .before .loop .inv) (c .before .loop-test .left) (c .told3 .ensures)))

@@ -6,34 +6,29 @@ use borrow.Author.Needs.{needs}
 use Rattle.frames.proofs.shape.header_of.Statement.{statement}
 use Rattle.frames.proofs.shape.header_of.Tie as tie
 
-returns : tie.Need-returns
-returns c = answer-two _ _ (c .if1 .taken)
-
-returns-2 : tie.Need-returns-2
-returns-2 c = answer-three _ _ (c .before .before .if1 .left) (sym (c .before .whole .ensures) ∙ not-true _ (c .if2 .taken))
+-- the file is whole, seen from its first line
+abbrev whole-at : tie.After-is-frame → tie.Else2
+whole-at c = c .before .before .before
 
 returns-3 : tie.Need-returns-3
-returns-3 c = answer-empty _ _ (c .before .before .before .if1 .left) (sym (c .before .before .whole .ensures) ∙ not-false _ (c .before .if2 .left)) (c .if3 .taken)
+returns-3 c =
+    let w = c .before in answer-empty _ _ (w .before .before .if1 .left) (sym (w .before .whole .ensures) ∙ not-false _ (w .if2 .left)) (c .if3 .taken)
 
 returns-4 : tie.Need-returns-4
 returns-4 c =
-    answer-other _ _ (c .before .before .before .before .before .before .if1 .left) (sym (c .before .before .before .before .before .whole .ensures) ∙ not-false _ (c .before .before .before .before .if2 .left)) _ _ (c .before .before .line-at .ensures)
+    let w = whole-at (c .before) in
+    answer-other _ _ (w .before .before .if1 .left) (sym (w .before .whole .ensures) ∙ not-false _ (w .if2 .left)) _ _ (c .before .before .line-at .ensures)
     (sym (c .before .is-frame .ensures) ∙ not-true _ (c .if4 .taken))
 
 returns-5 : tie.Need-returns-5
 returns-5 c =
-    answer-none _ _ (c .before .before .before .before .before .before .if1 .left) (sym (c .before .before .before .before .before .whole .ensures) ∙ not-false _ (c .before .before .before .before .if2 .left)) _ _ (c .before .before .line-at .ensures)
+    let w = whole-at (c .before) in
+    answer-none _ _ (w .before .before .if1 .left) (sym (w .before .whole .ensures) ∙ not-false _ (w .if2 .left)) _ _ (c .before .before .line-at .ensures)
     (sym (c .before .is-frame .ensures) ∙ not-false _ (c .if4 .left))
 
 pub header-of-spec : {M : Type 1} → statement M
 header-of-spec =
     tie.close
-    (tie.spec
-    returns
-    (λ c κs. search needs)
-    returns-2
-    returns-3
-    (λ c κs. search needs)
-    (λ c κs. search needs)
-    returns-4
-    returns-5)
+    (tie.spec (λ c. answer-two _ _ (c .if1 .taken)) (search needs)
+    (λ c. answer-three _ _ (c .before .before .if1 .left) (sym (c .before .whole .ensures) ∙ not-true _ (c .if2 .taken))) returns-3 (search needs)
+    (search needs) returns-4 returns-5)

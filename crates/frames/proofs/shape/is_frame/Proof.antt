@@ -6,14 +6,9 @@ use borrow.Author.Needs.{needs}
 use Rattle.frames.proofs.shape.is_frame.Statement.{statement}
 use Rattle.frames.proofs.shape.is_frame.Tie as tie
 
-returns : tie.Need-returns
-returns c = sym (frame-no _ _ _ _ _ (c .before .before .pre .1) (λ e. omega arith))
-
-returns-2 : tie.Need-returns-2
-returns-2 c = sym (frame-no _ _ _ _ _ (c .before .before .before .pre .1) (λ e. c .if2 .taken (omega arith)))
-
-returns-3 : tie.Need-returns-3
-returns-3 c = frame-by _ _ _ _ _ (c .before .before .before .before .pre .1) (c .hex2 .result) (omega arith) (c .hex2 .ensures .is)
-
 pub is-frame-spec : {M : Type 1} → statement M
-is-frame-spec = tie.close (tie.spec (λ c. search needs) returns returns-2 (λ c κs. search needs) returns-3)
+is-frame-spec =
+    tie.close
+    (tie.spec (search needs) (λ c. sym (frame-no _ _ _ _ _ (c .before .before .pre .1) (λ e. omega arith)))
+    (λ c. sym (frame-no _ _ _ _ _ (c .before .before .before .pre .1) (λ e. c .if2 .taken (omega arith)))) (search needs)
+    (λ c. frame-by _ _ _ _ _ (c .before .before .before .before .pre .1) (c .hex2 .result) (omega arith) (c .hex2 .ensures .is)))

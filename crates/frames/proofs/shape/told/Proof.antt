@@ -4,11 +4,5 @@ use borrow.Author.Tests.{ne-eqb}
 use Rattle.frames.proofs.shape.told.Statement.{statement}
 use Rattle.frames.proofs.shape.told.Tie as tie
 
-returns : tie.Need-returns
-returns c = rw (ne-eqb _ _ (c .if1 .taken)) (refl, refl, refl)
-
-returns-2 : tie.Need-returns-2
-returns-2 c = rw (c .if1 .left) (refl, refl, refl)
-
 pub told-spec : {M : Type 1} → statement M
-told-spec = tie.close (tie.spec returns returns-2)
+told-spec = tie.close (tie.spec (λ c. rw (ne-eqb _ _ (c .if1 .taken)) (refl, refl, refl)) (λ c. rw (c .if1 .left) (refl, refl, refl)))

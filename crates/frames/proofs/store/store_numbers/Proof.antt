@@ -1,9 +1,12 @@
 -- The invariant: part of the run is passed, and the slice is filled so far. The measure is what is left of the file.
-use mathlib.Core.Path.{sym, _∙_}
-use Prim.Native.Nat.{_-_}
+use mathlib.Core.Path.{_≡_, sym, _∙_}
+use Prim.Native.Nat.{_-_, _<_}
 use native.Mathlib.Omega.{arith}
 use lib.ListN.{length}
-use Rattle.frames.proofs.Stores.{Passing, Filling, line-numbers, passing-room, passing-on, filling-on, stopped-other, stopped-over, stored-numbers}
+use Rattle.counting.proofs.Loops.{storing-start}
+use Rattle.frames.specs.Frames.{hexAt}
+use Rattle.frames.specs.Stores.{runAt}
+use Rattle.frames.proofs.Stores.{Passing, Filling, LineNumbers, line-numbers, passing-start, passing-room, passing-next, filling-next, stopped-other, stopped-over, stored-numbers}
 use borrow.Author.Needs.{needs}
 use Rattle.frames.proofs.store.store_numbers.Statement.{statement}
 use Rattle.frames.proofs.store.store_numbers.Tie as tie
@@ -14,35 +17,39 @@ Inv-loop g at kind out₀ i₀ n₀ out i n = Passing kind g at i n × Filling 2
 abbrev μ-loop : tie.MeasureT-loop
 μ-loop g at kind out₀ i₀ n₀ out i n = length g - i
 
-hex2-requires : tie.Need-hex2-requires Inv-loop μ-loop
-hex2-requires c κs = let w = line-numbers (c .line-at .ensures) (c .before .before .loop .inv .0) in omega arith
+-- PLACES: the loop and the start, seen from the line at hand; that line, seen from where it is of the kind
+abbrev at-loop : tie.After-line-at Inv-loop μ-loop → tie.At-loop Inv-loop μ-loop
+at-loop c = c .before .before
+
+abbrev start : tie.After-line-at Inv-loop μ-loop → tie.Start Inv-loop μ-loop
+start c = at-loop c .before .before .before
+
+abbrev line : tie.Else1 Inv-loop μ-loop → tie.After-line-at Inv-loop μ-loop
+line c = c .before .before
+
+reads : (c : tie.After-line-at Inv-loop μ-loop) → LineNumbers (start c .args .g .now) (at-loop c .loop .i) (c .line-at .result .end)
+reads c = line-numbers (c .line-at .ensures) (at-loop c .loop .inv .0)
+
+is-of-kind : (c : tie.Else1 Inv-loop μ-loop) → hexAt (at-loop (line c) .loop .i) 2 (start (line c) .args .g .now) ≡ start (line c) .args .kind
+is-of-kind c = sym (c .before .hex2 .ensures .is) ∙ c .if1 .left
+
+room : (c : tie.Else1 Inv-loop μ-loop) →
+    let s = start (line c) .args in at-loop (line c) .loop .n < length (runAt (s .kind) (s .g .now) (s .at))
+room c = passing-room (line c .line-at .ensures) (at-loop (line c) .loop .inv .0) (is-of-kind c)
 
 returns : tie.Need-returns Inv-loop μ-loop
 returns c =
-    let v = c .before .before .before .before .loop .inv in
-    let stop = stopped-other (c .before .before .line-at .ensures) (v .0) (λ e. c .if1 .taken (c .before .hex2 .ensures .is ∙ e)) in
+    let l = c .before .before in
+    let v = at-loop l .loop .inv in
+    let stop = stopped-other (l .line-at .ensures) (v .0) (λ e. c .if1 .taken (c .before .hex2 .ensures .is ∙ e)) in
     stored-numbers (v .0) stop (v .1) (omega arith)
-
-hex4-requires : tie.Need-hex4-requires Inv-loop μ-loop
-hex4-requires c κs =
-    let w = line-numbers (c .before .before .line-at .ensures) (c .before .before .before .before .loop .inv .0) in omega arith
-
-cast-out : tie.Need-cast-out Inv-loop μ-loop
-cast-out c =
-    let w = line-numbers (c .before .before .before .line-at .ensures) (c .before .before .before .before .before .loop .inv .0) in omega arith
-
-slice-write-out : tie.Need-slice-write-out Inv-loop μ-loop
-slice-write-out c =
-    let e = sym (c .before .before .hex2 .ensures .is) ∙ c .before .if1 .left in
-    let w = passing-room (c .before .before .before .line-at .ensures) (c .before .before .before .before .before .loop .inv .0) e in
-    omega arith
 
 loop-again : tie.Need-loop-again Inv-loop μ-loop
 loop-again c =
-    let v = c .before .before .before .before .before .loop .inv in
-    let l = c .before .before .before .line-at .ensures in
-    let e = sym (c .before .before .hex2 .ensures .is) ∙ c .before .if1 .left in
-    (passing-on l (v .0) e, rw (c .hex4 .ensures .is) (filling-on l (v .0) e (omega arith) (v .1)))
+    let k = c .before in
+    let v = at-loop (line k) .loop .inv in
+    let l = line k .line-at .ensures in
+    (passing-next l (v .0) (is-of-kind k), rw (c .hex4 .ensures .is) (filling-next l (v .0) (is-of-kind k) 2 4 (omega arith) (v .1)))
 
 returns-2 : tie.Need-returns-2 Inv-loop μ-loop
 returns-2 c =
@@ -52,21 +59,7 @@ returns-2 c =
 pub store-numbers-spec : {M : Type 1} → statement M
 store-numbers-spec =
     tie.close
-    (tie.spec
-    Inv-loop
-    μ-loop
-    (λ c. search needs)
-    (λ c κs. search needs)
-    hex2-requires
-    (λ c. search needs)
-    returns
-    (λ c. search needs)
-    hex4-requires
-    cast-out
-    (λ c. search needs)
-    slice-write-out
-    (λ c. search needs)
-    (λ c. search needs)
-    loop-again
-    (λ c. search needs)
-    returns-2)
+    (tie.spec Inv-loop μ-loop (λ c. (passing-start _ (c .before .before .pre .0), storing-start _ _ _)) (search needs)
+    (λ c κs. omega (arith, reads c)) (search needs) returns (search needs) (λ c κs. omega (arith, reads (line c)))
+    (λ c. omega (arith, reads (line (c .before)))) (search needs) (λ c. omega (arith, room (c .before))) (search needs) (search needs) loop-again
+    (search needs) returns-2)

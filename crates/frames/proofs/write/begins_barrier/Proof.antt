@@ -4,19 +4,8 @@ use borrow.Author.Needs.{needs}
 use Rattle.frames.proofs.write.begins_barrier.Statement.{statement}
 use Rattle.frames.proofs.write.begins_barrier.Tie as tie
 
-returns : tie.Need-returns
-returns c = rw (sym (c .before .begins-with .ensures) ∙ c .if1 .taken)
-
-returns-2 : tie.Need-returns-2
-returns-2 c = rw (sym (c .before .before .before .begins-with .ensures) ∙ c .before .before .if1 .left) (c .begins-with2 .ensures)
-
 pub begins-barrier-spec : {M : Type 1} → statement M
 begins-barrier-spec =
     tie.close
-    (tie.spec
-    (λ c. search needs)
-    (λ c. search needs)
-    returns
-    (λ c. search needs)
-    (λ c. search needs)
-    returns-2)
+    (tie.spec (search needs) (search needs) (λ c. rw (sym (c .before .begins-with .ensures) ∙ c .if1 .taken)) (search needs) (search needs)
+    (λ c. rw (sym (c .before .before .before .begins-with .ensures) ∙ c .before .before .if1 .left) (c .begins-with2 .ensures)))

@@ -1,7 +1,7 @@
 -- `kept::slots::close_up` meets its contract: the slots below `i` are passed.
 use Prim.Native.Nat.{_-_}
 use Rattle.kept.specs.Slots.{Closing}
-use Rattle.kept.proofs.Entries.{closing-start, closing-step, closing-end}
+use Rattle.kept.proofs.Entries.{closing-start, closing-next, closing-end}
 use Rattle.kept.proofs.slots.close_up.Statement.{statement}
 use Rattle.kept.proofs.slots.close_up.Tie as tie
 use borrow.Author.Needs.{needs}
@@ -12,17 +12,9 @@ Inv-loop state₀ count name left₀ i₀ state left i = Closing state₀ count 
 abbrev μ-loop : tie.MeasureT-loop
 μ-loop state₀ count name left₀ i₀ state left i = count - i
 
-loop-holds : tie.Need-loop-holds Inv-loop μ-loop
-loop-holds c = closing-start (c .args .state .now) (c .args .count) (c .args .name)
-
-loop-again : tie.Need-loop-again Inv-loop μ-loop
-loop-again c =
-    closing-step (c .before .before .before .loop .inv) (c .before .before .loop-test .taken) (c .pass-slot .ensures)
-
-returns : tie.Need-returns Inv-loop μ-loop
-returns c = closing-end (c .before .loop .inv) (c .loop-test .left)
-
 pub close-up-spec : {M : Type 1} → statement M
 close-up-spec =
     tie.close
-    (tie.spec Inv-loop μ-loop loop-holds (λ c κs. search needs) (λ c. search needs) (λ c. search needs) loop-again returns)
+    (tie.spec Inv-loop μ-loop (λ c. closing-start (c .args .state .now) (c .args .count) (c .args .name)) (search needs) (search needs) (search needs)
+    (λ c. closing-next (c .before .before .before .loop .inv) (c .before .before .loop-test .taken) (c .pass-slot .ensures))
+    (λ c. closing-end (c .before .loop .inv) (c .loop-test .left)))

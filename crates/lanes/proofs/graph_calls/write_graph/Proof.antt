@@ -3,7 +3,7 @@ use mathlib.Core.Path.{_≡_, sym, _∙_}
 use Prim.Native.Nat.{_*_}
 use native.Mathlib.Omega.{arith}
 use lib.ListN.{length}
-use Rattle.arcs.specs.Table.{graphOf}
+use Rattle.arcs.specs.Table.{tableGraph}
 use Rattle.lanes.proofs.GraphCalls.{Found, path-found, barrier-found, path-small, path-written, barrier-small, barrier-written}
 use borrow.Author.Needs.{needs}
 use Rattle.lanes.proofs.graph_calls.write_graph.Statement.{statement}
@@ -20,7 +20,7 @@ search-of c = c .before .before .before .before
 found : (c : tie.After-found) →
     let s = search-of (c .before .before) in
     let a = start s .args in
-    Found (graphOf (a .pairs) (a .source) (a .tails .now) (a .heads .now)) (s .path-or-barrier .last .1 .1 .1 .1 .1 .0) (c .found .given .0 .0)
+    Found (tableGraph (a .pairs) (a .source) (a .tails .now) (a .heads .now)) (s .path-or-barrier .last .1 .1 .1 .1 .1 .0) (c .found .given .0 .0)
 found c =
     let s = search-of (c .before .before) in
     path-found (start s .pre .0) _ _ _ _ _ _ (c .found .given .1) (s .path-or-barrier .ensures) (start s .pre .1 .0 .1)
@@ -28,18 +28,6 @@ found c =
 -- the classes, as many as nodes
 classes : (c : tie.After-slice-known5) → length (search-of c .path-or-barrier .last .1 .1 .1 .1 .0) ≡ 2 * start (search-of c) .args .pairs
 classes c = c .before .before .before .class .given ∙ start (search-of c) .pre .1 .0 .0
-
-path-or-barrier-requires : tie.Need-path-or-barrier-requires
-path-or-barrier-requires c κs = search needs
-
-enum-known-found : tie.Need-enum-known-found
-enum-known-found c = search needs
-
-slice-reshare-prefix-put-path : tie.Need-slice-reshare-prefix-put-path
-slice-reshare-prefix-put-path c = found (c .before .before) .inside
-
-slice-aggregate-put-path : tie.Need-slice-aggregate-put-path
-slice-aggregate-put-path c = sym (found (c .before .before .before) .long)
 
 put-path-requires : tie.Need-put-path-requires
 put-path-requires c κs =
@@ -49,37 +37,13 @@ answered-requires : tie.Need-answered-requires
 answered-requires c κs =
     let a = c .before .before .before .before .before .before in path-small (start (search-of (a .before .before)) .pre .0) (found a) (c .before .before .put-path .ensures)
 
-enum-told : tie.Need-enum-told
-enum-told c = search needs
-
-put-barrier-requires : tie.Need-put-barrier-requires
-put-barrier-requires c κs = search needs
-
 answered-requires-2 : tie.Need-answered-requires-2
 answered-requires-2 c κs =
     let a = c .before .before .before .before .before .before .before in barrier-small (start (search-of a) .pre .0) _ (c .before .before .put-barrier .ensures) (classes a)
 
-same-length : tie.Need-same-length
-same-length c = search needs
-
-same-length-2 : tie.Need-same-length-2
-same-length-2 c = search needs
-
-same-length-3 : tie.Need-same-length-3
-same-length-3 c = search needs
-
 returns : tie.Need-returns
 returns c =
     let a = c .before .before .before .before .before .before .before in path-written (start (search-of (a .before .before)) .pre .0) (found a) (c .before .before .before .put-path .ensures) (c .answered .ensures)
-
-same-length-4 : tie.Need-same-length-4
-same-length-4 c = search needs
-
-same-length-5 : tie.Need-same-length-5
-same-length-5 c = search needs
-
-same-length-6 : tie.Need-same-length-6
-same-length-6 c = search needs
 
 returns-2 : tie.Need-returns-2
 returns-2 c =
@@ -89,21 +53,6 @@ returns-2 c =
 pub write-graph-spec : {M : Type 1} → statement M
 write-graph-spec =
     tie.close
-    (tie.spec
-    path-or-barrier-requires
-    enum-known-found
-    slice-reshare-prefix-put-path
-    slice-aggregate-put-path
-    put-path-requires
-    answered-requires
-    enum-told
-    put-barrier-requires
-    answered-requires-2
-    same-length
-    same-length-2
-    same-length-3
-    returns
-    same-length-4
-    same-length-5
-    same-length-6
-    returns-2)
+    (tie.spec (λ c κs. search needs) (search needs) (λ c. found (c .before .before) .inside) (λ c. sym (found (c .before .before .before) .long))
+    put-path-requires answered-requires (search needs) (search needs) answered-requires-2 (search needs) (search needs) (search needs) returns
+    (search needs) (search needs) (search needs) returns-2)

@@ -19,27 +19,6 @@ run c = c .before .before .before .before .before .before .before .before .befor
 few : (c : tie.After-plan) → c .plan .result ≤ 63
 few c = plan-few (start c .pre .0) (c .plan .ensures)
 
-slice-aggregate-plan : tie.Need-slice-aggregate-plan
-slice-aggregate-plan c = search needs
-
-slice-aggregate-plan-2 : tie.Need-slice-aggregate-plan-2
-slice-aggregate-plan-2 c = search needs
-
-plan-requires : tie.Need-plan-requires
-plan-requires c κs = search needs
-
-array-share-prefix-pair-firsts : tie.Need-array-share-prefix-pair-firsts
-array-share-prefix-pair-firsts c = omega (arith, few (c .before .before .before .before .before))
-
-slice-aggregate-put-plan-and-sheet : tie.Need-slice-aggregate-put-plan-and-sheet
-slice-aggregate-put-plan-and-sheet c = let k = few (c .before .before .before .before .before .before) in sym (length-take-le _ _ (omega arith))
-
-array-share-prefix-pair-seconds : tie.Need-array-share-prefix-pair-seconds
-array-share-prefix-pair-seconds c = omega (arith, few (c .before .before .before .before .before .before))
-
-slice-aggregate-put-plan-and-sheet-2 : tie.Need-slice-aggregate-put-plan-and-sheet-2
-slice-aggregate-put-plan-and-sheet-2 c = let k = few (c .before .before .before .before .before .before .before) in sym (length-take-le _ _ (omega arith))
-
 put-plan-and-sheet-requires : tie.Need-put-plan-and-sheet-requires
 put-plan-and-sheet-requires c κs =
     let p = c .before .before .before .before .before .before .before .before in
@@ -52,39 +31,19 @@ answered-requires : tie.Need-answered-requires
 answered-requires c κs =
     let w = c .before .before in
     let p = run w in
-    let table = start p .pre .0 in
-    let cameras = table .cameras-few in
-    let k = few p in
-    stock-small table (p .plan .ensures) (omega arith) (omega arith) (length-take-le _ _ (omega arith)) (w .put-plan-and-sheet .ensures)
-
-same-length : tie.Need-same-length
-same-length c = search needs
-
-same-length-2 : tie.Need-same-length-2
-same-length-2 c = search needs
+    stock-small (start p .pre .0) (p .plan .ensures) (omega arith) (omega arith) (length-take-le _ _ (omega (arith, few p))) (w .put-plan-and-sheet .ensures)
 
 returns : tie.Need-returns
 returns c =
     let w = c .before .before .before in
     let p = run w in
-    let table = start p .pre .0 in
-    let cameras = table .cameras-few in
-    let k = few p in
-    stock-written table (p .plan .ensures) (omega arith) (omega arith) (length-take-le _ _ (omega arith)) (w .put-plan-and-sheet .ensures) (c .answered .ensures)
+    stock-written (start p .pre .0) (p .plan .ensures) (omega arith) (omega arith) (length-take-le _ _ (omega (arith, few p))) (w .put-plan-and-sheet .ensures) (c .answered .ensures)
 
 pub write-stock-spec : {M : Type 1} → statement M
 write-stock-spec =
     tie.close
-    (tie.spec
-    slice-aggregate-plan
-    slice-aggregate-plan-2
-    plan-requires
-    array-share-prefix-pair-firsts
-    slice-aggregate-put-plan-and-sheet
-    array-share-prefix-pair-seconds
-    slice-aggregate-put-plan-and-sheet-2
-    put-plan-and-sheet-requires
-    answered-requires
-    same-length
-    same-length-2
-    returns)
+    (tie.spec (search needs) (search needs) (λ c κs. search needs) (λ c. omega (arith, few (c .before .before .before .before .before)))
+    (λ c. sym (length-take-le _ _ (omega (arith, few (c .before .before .before .before .before .before)))))
+    (λ c. omega (arith, few (c .before .before .before .before .before .before)))
+    (λ c. sym (length-take-le _ _ (omega (arith, few (c .before .before .before .before .before .before .before))))) put-plan-and-sheet-requires
+    answered-requires (search needs) (search needs) returns)

@@ -1,15 +1,13 @@
 -- Search by search: each but the last gives a pair, and the last found none or is the last that may be run.
-use mathlib.Core.Path.{_≡_, refl, sym, subst, _∙_}
-use Prim.Native.Nat.{ℕ, _-_, _≤_}
+use mathlib.Core.Path.{_≡_, refl, _∙_}
+use Prim.Native.Nat.{_-_, _≤_}
 use native.Mathlib.Omega.{arith}
 use lib.ListN.{length}
-use denote.Ref.{now}
 use borrow.Author.Needs.{needs}
 use borrow.Author.Tests.{not-true, not-false}
 use Rattle.counting.specs.Pairs.{zipPairs}
-use Rattle.pairing.specs.Table.{FitTable}
 use Rattle.pairing.specs.Plan.{Improving}
-use Rattle.pairing.proofs.Improving.{improving-start, improving-more, ran-none, ran-all}
+use Rattle.pairing.proofs.SearchRuns.{improving-start, improving-next, ran-none, ran-all}
 use Rattle.pairing.proofs.plan.run_searches.Statement.{statement}
 use Rattle.pairing.proofs.plan.run_searches.Tie as tie
 
@@ -20,71 +18,32 @@ Inv-loop most row₀ firsts seconds reached₀ searches₀ row reached searches 
 abbrev μ-loop : tie.MeasureT-loop
 μ-loop most row₀ firsts seconds reached₀ searches₀ row reached searches = most - searches
 
-loop-holds : tie.Need-loop-holds Inv-loop μ-loop
-loop-holds c = (refl, omega arith, improving-start _ _ (c .before .before .before .before .pre .1 .0))
-
-add-searches : tie.Need-add-searches Inv-loop μ-loop
-add-searches c = search needs
+-- PLACES: the loop, seen from the search; and the search, seen from its answer
+abbrev turn : tie.After-improve Inv-loop μ-loop → tie.In-loop Inv-loop μ-loop
+turn c = c .before .before .before
 
 improve-requires : tie.Need-improve-requires Inv-loop μ-loop
 improve-requires c κs =
-    let S = c .before .before .before .before .before .before .before .before in
-    let l = c .before .before .before .loop in
-    let I = l .inv .2 in
-    let n = I .long in (
-      subst (λ (m : ℕ). FitTable m (now (S .args .firsts)) (now (S .args .seconds))) (sym n) (S .pre .0),
-      (I .matching, omega (arith, l .inv .0, S .pre .1 .1)),
-    )
-
-same-length : tie.Need-same-length Inv-loop μ-loop
-same-length c = c .before .before .before .before .before .improve .kept .0 ∙ c .before .before .before .before .before .before .before .before .before .loop .inv .2 .long
-
-same-length-2 : tie.Need-same-length-2 Inv-loop μ-loop
-same-length-2 c = c .before .before .before .before .before .improve .kept .1 .1 .1 .0 ∙ c .before .before .before .before .before .before .before .before .before .loop .inv .0
+    let l = c .before .before .before in
+    let pre = l .before .before .before .before .before .pre in
+    let I = l .loop .inv .2 in
+    (record { table = rw (I .long) (pre .0 .table); matching = I .matching }, omega (arith, l .loop .inv .0, I .long, pre .1))
 
 returns : tie.Need-returns Inv-loop μ-loop
 returns c =
-    let l = c .before .before .before .before .before .before .before .before .before .loop in
-    let r = c .before .before .before .before .before .improve in
-    ran-none (l .inv .2) (r .ensures) (not-true _ (c .if1 .taken)) (c .before .before .before .before .before .before .before .before .loop-test .taken) (omega arith) refl
-
-loop-less : tie.Need-loop-less Inv-loop μ-loop
-loop-less c =
-    let less = c .before .before .before .before .before .before .before .before .loop-test .taken in
-    omega arith
+    let r = c .before .before .before .before .before in
+    ran-none (turn r .before .loop .inv .2) (r .improve .ensures) (not-true _ (c .if1 .taken)) (turn r .loop-test .taken) refl refl
 
 loop-again : tie.Need-loop-again Inv-loop μ-loop
 loop-again c =
-    let l = c .before .before .before .before .before .before .before .before .before .loop in
-    let r = c .before .before .before .before .before .improve in
-    let less = c .before .before .before .before .before .before .before .before .loop-test .taken in
-    (r .kept .1 .1 .1 .0 ∙ l .inv .0, omega arith, subst (Improving _ _ _) (omega arith) (improving-more (l .inv .2) (r .kept .0) (r .ensures) (not-false _ (c .if1 .left))))
-
-same-length-3 : tie.Need-same-length-3 Inv-loop μ-loop
-same-length-3 c = c .before .loop .inv .2 .long
-
-same-length-4 : tie.Need-same-length-4 Inv-loop μ-loop
-same-length-4 c = c .before .loop .inv .0
-
-returns-2 : tie.Need-returns-2 Inv-loop μ-loop
-returns-2 c =
-    let l = c .before .loop in
-    ran-all (l .inv .2) (omega (arith, l .inv .1, c .loop-test .left)) refl refl
+    let r = c .before .before .before .before .before in
+    let inv = turn r .before .loop .inv in
+    let less = turn r .loop-test .taken in
+    (r .improve .kept .1 .1 .1 .0 ∙ inv .0, omega arith, improving-next (inv .2) (r .improve .kept .0) (r .improve .ensures) (not-false _ (c .if1 .left)))
 
 pub run-searches-spec : {M : Type 1} → statement M
 run-searches-spec =
     tie.close
-    (tie.spec
-    Inv-loop
-    μ-loop
-    loop-holds
-    add-searches
-    improve-requires
-    same-length
-    same-length-2
-    returns
-    loop-less
-    loop-again
-    same-length-3
-    same-length-4
-    returns-2)
+    (tie.spec Inv-loop μ-loop (λ c. (refl, omega arith, improving-start (c .before .before .before .before .pre .0 .matching))) (search needs)
+    improve-requires (search needs) (search needs) returns (search needs) loop-again (search needs) (search needs)
+    (λ c. ran-all (c .before .loop .inv .2) (omega (arith, c .before .loop .inv .1, c .loop-test .left)) refl refl))

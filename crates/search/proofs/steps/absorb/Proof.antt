@@ -4,72 +4,29 @@ use borrow.Author.Needs.{needs}
 use Rattle.search.proofs.steps.absorb.Statement.{statement}
 use Rattle.search.proofs.steps.absorb.Tie as tie
 
-mul-mark : tie.Need-mul-mark
-mul-mark c = search needs
-
-slice-write-mark : tie.Need-slice-write-mark
-slice-write-mark c = search needs
-
-mate-of-requires : tie.Need-mate-of-requires
-mate-of-requires c κs = search needs
-
-label-requires : tie.Need-label-requires
-label-requires c κs = search needs
-
-mul-a : tie.Need-mul-a
-mul-a c = search needs
-
-slice-read-a : tie.Need-slice-read-a
-slice-read-a c = search needs
-
 shared-slice-read-wide : tie.Need-shared-slice-read-wide
 shared-slice-read-wide c =
-    let label = c .before .before .before .before .label in
-    let mate-of = c .before .before .before .before .before .mate-of in
-    let pre = c .before .before .before .before .before .before .before .before .before .before .before .before .pre in
-    rw (label .ensures, mate-of .ensures) (pre .is-arc)
-
-wide-requires : tie.Need-wide-requires
-wide-requires c κs = search needs
-
-mul-result : tie.Need-mul-result
-mul-result c = search needs
+    let l = c .before .before .before .before in
+    rw (l .label .ensures, l .before .mate-of .ensures) (l .before .before .before .before .before .before .before .before .pre .is-arc)
 
 shared-slice-read-result : tie.Need-shared-slice-read-result
 shared-slice-read-result c =
-    let wide = c .before .wide in
-    let label = c .before .before .before .before .before .before .label in
-    let mate-of = c .before .before .before .before .before .before .before .mate-of in
-    let pre = c .before .before .before .before .before .before .before .before .before .before .before .before .before .before .pre in
-    rw (wide .ensures .0, label .ensures, mate-of .ensures) (pre .in-bases)
-
-same-length : tie.Need-same-length
-same-length c = search needs
-
-same-length-2 : tie.Need-same-length-2
-same-length-2 c = search needs
+    let l = c .before .before .before .before .before .before in
+    rw (c .before .wide .ensures .0, l .label .ensures, l .before .mate-of .ensures) (l .before .before .before .before .before .before .before .before .pre .in-bases)
 
 returns : tie.Need-returns
 returns c =
-    let mate-of = c .before .before .before .before .before .before .before .mate-of in
-    let label = c .before .before .before .before .before .before .label in
-    let wide = c .before .wide in
-    record { marks = refl; vias = rw (← mate-of .ensures) (label .ensures); parent = rw (wide .ensures .0, label .ensures, mate-of .ensures) }
+    let l = c .before .before .before .before .before .before in
+    let label = l .label in
+    let mate-of = l .before .mate-of in
+    record {
+      marks-are = refl;
+      vias-are = rw (← mate-of .ensures) (label .ensures);
+      parent = rw (c .before .wide .ensures .0, label .ensures, mate-of .ensures);
+    }
 
 pub absorb-spec : {M : Type 1} → statement M
 absorb-spec =
     tie.close
-    (tie.spec
-    mul-mark
-    slice-write-mark
-    mate-of-requires
-    label-requires
-    mul-a
-    slice-read-a
-    shared-slice-read-wide
-    wide-requires
-    mul-result
-    shared-slice-read-result
-    same-length
-    same-length-2
-    returns)
+    (tie.spec (search needs) (search needs) (search needs) (search needs) (search needs) (search needs) shared-slice-read-wide (search needs)
+    (search needs) shared-slice-read-result (search needs) (search needs) returns)

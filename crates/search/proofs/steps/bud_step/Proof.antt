@@ -1,106 +1,57 @@
--- An ascent, and the births, bases and marks mapped after it, are the bud step.
-use mathlib.Core.Path.{refl}
+-- An ascent, and the births and bases mapped after it, are the bud step.
+use Prim.Native.Nat.{_<_}
 use native.Mathlib.Omega.{arith}
-use Rattle.search.proofs.BudSteps.{maps-asked, mate-asked, bud-stepped}
+use lib.ListN.{length}
 use borrow.Author.Needs.{needs}
+use Rattle.search.specs.Tables.{Labels, labels}
+use Rattle.search.proofs.States.{cleared}
+use Rattle.search.proofs.BudSteps.{MapsAsked, maps-asked, bud-stepped}
 use Rattle.search.proofs.steps.bud_step.Statement.{statement}
 use Rattle.search.proofs.steps.bud_step.Tie as tie
 
-ascend-requires : tie.Need-ascend-requires
-ascend-requires c κs = search needs
+-- PLACES: the start seen from the ascent, the ascent from the mate; the labels lent
+abbrev start : tie.After-ascend → tie.Start
+start c = c .before .before .before .before .before .before .before .before .before .before .before
+
+abbrev ascent : tie.After-mate-of → tie.After-ascend
+ascent c = c .before .before .before .before .before .before .before .before .before .before .before
+
+abbrev lent : tie.Start → Labels
+lent c = labels (c .args .birth .now) (c .args .via .now) (c .args .base .now)
+
+asked : (c : tie.After-ascend) → MapsAsked (lent (start c)) (c .ascend .last .1 .1 .1 .1 .1 .0) (c .ascend .result)
+asked c = let w = start c .pre .0 in maps-asked (w .2) (c .ascend .ensures (w .0) (w .1) _ (w .2))
+
+mate-stands : (c : tie.After-mate-of) →
+    (c .mate-of .result < 256) × (c .mate-of .result < length (c .before .before .before .reach-absorbed .last .0))
+mate-stands c =
+    let M = asked (ascent c) in
+    rw (c .mate-of .ensures) (M .mate-small, omega (arith, M .mate-in-births, c .before .before .before .reach-absorbed .ensures .long))
 
 reach-absorbed-requires : tie.Need-reach-absorbed-requires
 reach-absorbed-requires c κs =
-    let pre = c .before .before .before .before .before .before .before .before .before .before .before .before .before .before .before .before .before .before .pre in
-    let ascend = c .before .before .before .before .before .before .before .ascend in
-    maps-asked _ _ _ _ _ _ _ _ _ _ _ _ (pre .0) (ascend .ensures)
-
-mate-of-requires : tie.Need-mate-of-requires
-mate-of-requires c κs =
-    let pre = c .before .before .before .before .before .before .before .before .before .before .before .before .before .before .before .before .before .before .before .before .before .pre in
-    let ascend = c .before .before .before .before .before .before .before .before .before .before .ascend in
-    mate-asked _ _ _ _ _ _ _ _ _ _ _ _ (pre .0) (ascend .ensures) _ refl .0
-
-mul-birth-after : tie.Need-mul-birth-after
-mul-birth-after c =
-    let pre = c .before .before .before .before .before .before .before .before .before .before .before .before .before .before .before .before .before .before .before .before .before .before .pre in
-    let ascend = c .before .before .before .before .before .before .before .before .before .before .before .ascend in
-    let h = mate-asked _ _ _ _ _ _ _ _ _ _ _ _ (pre .0) (ascend .ensures) _ (c .mate-of .ensures) in omega (arith, h .2)
-
-slice-read-birth-after : tie.Need-slice-read-birth-after
-slice-read-birth-after c =
-    let pre = c .before .before .before .before .before .before .before .before .before .before .before .before .before .before .before .before .before .before .before .before .before .before .before .pre in
-    let ascend = c .before .before .before .before .before .before .before .before .before .before .before .before .ascend in
-    let mate-of = c .before .mate-of in
-    let reach-absorbed = c .before .before .before .before .reach-absorbed in
-    let h = mate-asked _ _ _ _ _ _ _ _ _ _ _ _ (pre .0) (ascend .ensures) _ (mate-of .ensures) in omega (arith, h .1, reach-absorbed .ensures .long)
-
-birth-after-requires : tie.Need-birth-after-requires
-birth-after-requires c κs = search needs
-
-mul-birth : tie.Need-mul-birth
-mul-birth c =
-    let pre = c .before .before .before .before .before .before .before .before .before .before .before .before .before .before .before .before .before .before .before .before .before .before .before .before .pre in
-    let ascend = c .before .before .before .before .before .before .before .before .before .before .before .before .before .ascend in
-    let mate-of = c .before .before .mate-of in
-    let h = mate-asked _ _ _ _ _ _ _ _ _ _ _ _ (pre .0) (ascend .ensures) _ (mate-of .ensures) in omega (arith, h .2)
-
-slice-write-birth : tie.Need-slice-write-birth
-slice-write-birth c =
-    let pre = c .before .before .before .before .before .before .before .before .before .before .before .before .before .before .before .before .before .before .before .before .before .before .before .before .pre in
-    let ascend = c .before .before .before .before .before .before .before .before .before .before .before .before .before .ascend in
-    let mate-of = c .before .before .mate-of in
-    let reach-absorbed = c .before .before .before .before .before .reach-absorbed in
-    let h = mate-asked _ _ _ _ _ _ _ _ _ _ _ _ (pre .0) (ascend .ensures) _ (mate-of .ensures) in omega (arith, h .1, reach-absorbed .ensures .long)
-
-rebase-absorbed-requires : tie.Need-rebase-absorbed-requires
-rebase-absorbed-requires c κs =
-    let pre = c .before .before .before .before .before .before .before .before .before .before .before .before .before .before .before .before .before .before .before .before .before .before .before .before .before .before .pre in
-    let ascend = c .before .before .before .before .before .before .before .before .before .before .before .before .before .before .before .ascend in
-    maps-asked _ _ _ _ _ _ _ _ _ _ _ _ (pre .0) (ascend .ensures) .1
-
-clear-requires : tie.Need-clear-requires
-clear-requires c κs = search needs
-
-same-length : tie.Need-same-length
-same-length c = search needs
-
-same-length-2 : tie.Need-same-length-2
-same-length-2 c = search needs
-
-same-length-3 : tie.Need-same-length-3
-same-length-3 c = search needs
-
-same-length-4 : tie.Need-same-length-4
-same-length-4 c = search needs
+    let M = asked (c .before .before .before .before .before .before .before) in
+    ((M .pairs, M .marks-long), M .base-marked)
 
 returns : tie.Need-returns
 returns c =
-    let pre = c .before .before .before .before .before .before .before .before .before .before .before .before .before .before .before .before .before .before .before .before .before .before .before .before .before .before .before .before .before .before .before .before .before .pre in
-    let ascend = c .before .before .before .before .before .before .before .before .before .before .before .before .before .before .before .before .before .before .before .before .before .before .ascend in
-    let reach-absorbed = c .before .before .before .before .before .before .before .before .before .before .before .before .before .before .reach-absorbed in
-    let mate-of = c .before .before .before .before .before .before .before .before .before .before .before .mate-of in
-    let birth-after = c .before .before .before .before .before .before .before .before .before .birth-after in
-    let rebase-absorbed = c .before .before .before .before .before .before .rebase-absorbed in
-    let clear = c .before .before .clear in
-    bud-stepped _ _ _ _ _ _ _ _ _ _ _ _ (pre .0) (ascend .ensures) (pre .1 .0) _ _ _ _ _ (reach-absorbed .ensures) (mate-of .ensures) (birth-after .ensures) (rebase-absorbed .ensures) (clear .ensures)
+    let r = c .before .before .before .before .before .before in
+    let b = r .before .before .before in
+    let m = b .before .before in
+    let reach-absorbed = m .before .before .before .reach-absorbed in (
+      λ n s B.
+          bud-stepped B (ascent m .ascend .ensures n s _ B) (reach-absorbed .ensures) (r .rebase-absorbed .ensures) (m .mate-of .ensures)
+          (b .birth-after .ensures),
+      rw (asked (ascent m) .marks-long) (cleared (c .before .before .clear .ensures)),
+    )
 
 pub bud-step-spec : {M : Type 1} → statement M
 bud-step-spec =
     tie.close
     (tie.spec
-    ascend-requires
-    reach-absorbed-requires
-    mate-of-requires
-    mul-birth-after
-    slice-read-birth-after
-    birth-after-requires
-    mul-birth
-    slice-write-birth
-    rebase-absorbed-requires
-    clear-requires
-    same-length
-    same-length-2
-    same-length-3
-    same-length-4
-    returns)
+    (λ c κs. let w = c .before .before .before .before .before .before .before .before .before .before .pre in ((w .0 .0, w .0 .1, (_, w .0 .2)), w .1))
+    reach-absorbed-requires (λ c κs. omega (arith, asked (c .before .before .before .before .before .before .before .before .before .before) .small))
+    (λ c. omega (arith, mate-stands c .0)) (λ c. mate-stands (c .before) .1) (search needs) (λ c. omega (arith, mate-stands (c .before .before) .0))
+    (λ c. mate-stands (c .before .before) .1)
+    (λ c κs. asked (c .before .before .before .before .before .before .before .before .before .before .before .before .before .before .before) .base-marked)
+    (search needs) (λ c. search needs) (search needs) (search needs) (search needs) returns)

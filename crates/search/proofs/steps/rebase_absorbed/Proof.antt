@@ -1,12 +1,13 @@
 -- The bases of the mate pairs before k are mapped.
-use Prim.Native.Nat.{_≤_, _-_}
-use lib.ListN.{length}
+use Prim.Native.Nat.{_≤_, _-_, _<_}
 use native.Mathlib.Omega.{arith}
-use Rattle.search.specs.Steps.{Mapped, basesAfter}
-use Rattle.search.proofs.Maps.{map-start, map-next, map-done, map-here}
+use lib.ListN.{length, getD}
+use borrow.Author.Needs.{needs}
+use Rattle.counting.specs.Loops.{Mapped}
+use Rattle.counting.proofs.Loops.{mapped-start, mapped-next, mapped-end, mapped-here}
+use Rattle.search.specs.Steps.{basesAfter}
 use Rattle.search.proofs.steps.rebase_absorbed.Statement.{statement}
 use Rattle.search.proofs.steps.rebase_absorbed.Tie as tie
-use borrow.Author.Needs.{needs}
 
 abbrev Inv-loop : tie.InvT-loop
 Inv-loop base₀ mark to k₀ base k = (k ≤ length base₀) × Mapped (basesAfter mark to) base₀ base k
@@ -14,72 +15,20 @@ Inv-loop base₀ mark to k₀ base k = (k ≤ length base₀) × Mapped (basesAf
 abbrev μ-loop : tie.MeasureT-loop
 μ-loop base₀ mark to k₀ base k = length base₀ - k
 
-loop-holds : tie.Need-loop-holds Inv-loop μ-loop
-loop-holds c = (omega arith, map-start _ _)
-
-mul-b : tie.Need-mul-b Inv-loop μ-loop
-mul-b c = search needs
-
-slice-read-b : tie.Need-slice-read-b Inv-loop μ-loop
-slice-read-b c = search needs
-
-mul-base-after : tie.Need-mul-base-after Inv-loop μ-loop
-mul-base-after c =
-    let pre = c .before .before .before .before .before .pre in
-    let loop = c .before .before .loop in
-    let good = c .before .before .before .before .before .good in
-    omega (arith, pre (loop .k) (omega (arith, loop .inv .1 .long)), map-here _ _ _ _ (loop .inv .1), good)
-
-shared-slice-read-base-after : tie.Need-shared-slice-read-base-after Inv-loop μ-loop
-shared-slice-read-base-after c =
-    let loop = c .before .before .before .loop in
-    let pre = c .before .before .before .before .before .before .pre in
-    rw (map-here _ _ _ _ (loop .inv .1)) (pre (loop .k) (omega (arith, loop .inv .1 .long)))
-
-base-after-requires : tie.Need-base-after-requires Inv-loop μ-loop
-base-after-requires c κs = search needs
-
-mul-base : tie.Need-mul-base Inv-loop μ-loop
-mul-base c = search needs
-
-slice-write-base : tie.Need-slice-write-base Inv-loop μ-loop
-slice-write-base c = search needs
-
-add-k : tie.Need-add-k Inv-loop μ-loop
-add-k c = search needs
-
-loop-less : tie.Need-loop-less Inv-loop μ-loop
-loop-less c = search needs
+-- the base at hand has a mark
+base-marked : (c : tie.At-loop Inv-loop μ-loop) → c .loop .k < length (c .loop .base) →
+    getD (c .loop .base) (c .loop .k) 0 < length (c .before .before .before .args .mark .now)
+base-marked c l = rw (mapped-here (c .loop .inv .1)) (c .before .before .before .pre (c .loop .k) (omega (arith, c .loop .inv .1 .long)))
 
 loop-again : tie.Need-loop-again Inv-loop μ-loop
 loop-again c =
-    let loop = c .before .before .before .before .loop in
-    (omega (arith, loop .inv .1 .long), map-next _ _ _ _ (loop .inv .1) _ (omega (arith, loop .inv .1 .long)) (c .base-after .ensures))
-
-same-length : tie.Need-same-length Inv-loop μ-loop
-same-length c = search needs
-
-returns : tie.Need-returns Inv-loop μ-loop
-returns c =
-    let loop = c .before .loop in
-    map-done _ _ _ _ (loop .inv .1) (c .loop-test .left) (loop .inv .0)
+    let M = c .before .before .before .before .loop .inv .1 in
+    (omega (arith, M .long), mapped-next M (omega (arith, M .long)) (c .base-after .ensures))
 
 pub rebase-absorbed-spec : {M : Type 1} → statement M
 rebase-absorbed-spec =
     tie.close
-    (tie.spec
-    Inv-loop
-    μ-loop
-    loop-holds
-    mul-b
-    slice-read-b
-    mul-base-after
-    shared-slice-read-base-after
-    base-after-requires
-    mul-base
-    slice-write-base
-    add-k
-    loop-less
-    loop-again
-    same-length
-    returns)
+    (tie.spec Inv-loop μ-loop (λ c. (omega arith, mapped-start _ _)) (search needs) (search needs)
+    (λ c. omega (arith, base-marked (c .before .before) (c .before .loop-test .taken)))
+    (λ c. base-marked (c .before .before .before) (c .before .before .loop-test .taken)) (search needs) (search needs) (search needs) (search needs)
+    (search needs) loop-again (search needs) (λ c. mapped-end (c .before .loop .inv .1) (c .loop-test .left) (c .before .loop .inv .0)))
