@@ -14,6 +14,10 @@ place c = ⊎-elim (λ w. inr (w .1 .left)) (λ w. inl (w .left)) (c .if1 .came)
 left : (c : tie.After-close-up) → c .close-up .result < namesMost
 left c = place-left (c .before .before .before .find .ensures) (place (c .before .before)) (omega arith) (c .close-up .ensures)
 
+returns : tie.Need-returns
+returns c =
+    stored-full (c .before .before .find .ensures) (c .before .before .before .before .kept-in .ensures) (c .before .if1 .taken) (c .if2 .taken)
+
 returns-2 : tie.Need-returns-2
 returns-2 c =
     stored-in (c .before .before .before .before .before .before .before .find .ensures) (c .before .before .before .before .before .before .before .before .before .kept-in .ensures) (place (c .before .before .before .before .before .before)) (c .before .before .before .before .close-up .ensures) (c .before .before .put-pairs .ensures) (c .put-kept .ensures)
@@ -21,7 +25,6 @@ returns-2 c =
 pub store-spec : {M : Type 1} → statement M
 store-spec =
     tie.close
-    (tie.spec (search needs) (search needs)
-    (λ c. stored-full (c .before .before .find .ensures) (c .before .before .before .before .kept-in .ensures) (c .before .if1 .taken) (c .if2 .taken))
-    (search needs) (λ c κs. (left (c .before), c .before .before .before .before .before .before .before .before .before .before .pre)) (search needs)
+    (tie.spec (search needs) (search needs) returns (search needs)
+    (λ c κs. (left (c .before), c .before .before .before .before .before .before .before .before .before .before .pre)) (search needs)
     (λ c κs. omega (arith, left (c .before .before .before))) returns-2)
