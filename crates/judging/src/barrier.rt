@@ -110,7 +110,7 @@ fn largest_class(classes: &[u8]) -> u8
 {
     let mut top: u8 = 0;
     let mut k = classes.len();
-    // invariant: top is the largest class from k on; falls: k
+    // invariant: specs/Barriers LargestFrom; falls: k
     while 0 < k {
         k -= 1;
         if top < classes[k] {

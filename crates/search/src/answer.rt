@@ -67,7 +67,7 @@ fn tell_reached(birth: &[usize], reached: &mut [u8])
     ensures { λ _. ⌜ Mapped (flagsBy (now (birth .entry))) (now (reached .entry)) (now (reached .exit)) (length (now (reached .entry))) ⌝ }
 {
     let mut v: usize = 0;
-    // invariant: counting Loops Mapped flagsBy; falls: nodes left
+    // invariant: counting/specs/Loops Mapped flagsBy; falls: nodes left
     while v < reached.len() {
         reached[v] = reached_flag(birth[v]);
         v += 1;

@@ -166,7 +166,7 @@ fn reset_bases(base: &mut [usize])
     ensures { λ _. ⌜ Mapped ownBase (now (base .entry)) (now (base .exit)) (length (now (base .entry))) ⌝ }
 {
     let mut k: usize = 0;
-    // invariant: counting Loops Mapped ownBase; falls: mate pairs left
+    // invariant: counting/specs/Loops Mapped ownBase; falls: mate pairs left
     while k < base.len() {
         base[k] = 2 * k;
         k += 1;

@@ -63,7 +63,7 @@ fn reach_absorbed(birth: &mut [usize], base: &[usize], mark: &[usize], clock: us
     ensures { λ _. ⌜ Mapped (birthsAfter (now (base .entry)) (now (mark .entry)) clock) (now (birth .entry)) (now (birth .exit)) (length (now (birth .entry))) ⌝ }
 {
     let mut v: usize = 0;
-    // invariant: counting Loops Mapped birthsAfter; falls: nodes left
+    // invariant: counting/specs/Loops Mapped birthsAfter; falls: nodes left
     while v < birth.len() {
         let b = base[v / 2];
         birth[v] = birth_after(birth[v], mark[b], clock);
@@ -77,7 +77,7 @@ fn rebase_absorbed(base: &mut [usize], mark: &[usize], to: usize)
     ensures { λ _. ⌜ Mapped (basesAfter (now (mark .entry)) to) (now (base .entry)) (now (base .exit)) (length (now (base .entry))) ⌝ }
 {
     let mut k: usize = 0;
-    // invariant: counting Loops Mapped basesAfter; falls: mate pairs left
+    // invariant: counting/specs/Loops Mapped basesAfter; falls: mate pairs left
     while k < base.len() {
         let b = base[k];
         base[k] = base_after(b, mark[b], to);
@@ -89,7 +89,7 @@ fn clear(mark: &mut [usize])
     ensures { λ _. ⌜ Mapped zeroed (now (mark .entry)) (now (mark .exit)) (length (now (mark .entry))) ⌝ }
 {
     let mut k: usize = 0;
-    // invariant: counting Loops Mapped zeroed; falls: places left
+    // invariant: counting/specs/Loops Mapped zeroed; falls: places left
     while k < mark.len() {
         mark[k] = 0;
         k += 1;
