@@ -3,7 +3,7 @@
 --   keep_distinct        no repeats come about
 --   keep_or              of two tests that exclude each other: the numbers kept add up
 --   found                what `find` finds passes, where anything does
-use mathlib.Core.Path.{◌≡◌, refl}
+use mathlib.Core.Path.{◌≡◌, refl, subst}
 use mathlib.Core.Logic.{inl, inr}
 use mathlib.Core.Bool.{Bool, true, false, ◌||◌}
 use mathlib.Core.List.{List, [], ◌∷◌}
@@ -50,4 +50,7 @@ unfolding find
 found f [] x m t = absurd m
 found f (y ∷ ys) x (inl e) t = let s : f y ≡ true = rw e at t in rw s (inl refl, s)
 found f (y ∷ ys) x (inr m) t =
-    by_test (f y) (λ s. rw s (inl refl, s)) (λ s. let r = found f ys x m t in rw s (inr r.0, r.1))
+    by_test (f y) (λ s. rw s (inl refl, s))
+    (λ s. let r = found f ys x m t in
+    let e : find f ys ≡ find f (y ∷ ys) = rw s in
+    subst (λ (z : ℕ). In z (y ∷ ys) × (f z ≡ true)) e (inr r.0, r.1))

@@ -1,1 +1,2 @@
 // Theory without code: what the other crates' proofs count with, stated once over finite lists.
+#![tactic(auto)]

@@ -16,7 +16,7 @@ use frames::shape::{barrier_shape, path_shape};
 use frames::store::{store_numbers, store_pairs};
 
 // A certificate as it was read: the refusal, or 0 and how many body lines it has; beside a refusal they are 0.
-#[derive(Drop)]
+#[derive(Clone, Copy)]
 pub struct Certificate {
     pub number: u8,
     pub count: usize,

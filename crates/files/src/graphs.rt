@@ -21,7 +21,7 @@ use frames::shape::{graph_body, graph_header};
 use frames::store::store_pairs;
 
 // A graph as it was read: the refusal, or 0 and its numbers; beside a refusal they are 0.
-#[derive(Drop)]
+#[derive(Clone, Copy)]
 pub struct GraphNumbers {
     pub number: u8,
     pub pairs: usize,

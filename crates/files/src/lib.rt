@@ -6,6 +6,8 @@
 //   plans        plan files read
 //   certificates paths and barriers read
 //   answers      answers written into a lent buffer
+#![tactic(auto)]
+
 pub mod answers;
 pub mod certificates;
 pub mod graphs;

@@ -5,7 +5,7 @@ ghost use Rattle.counting.specs.Pairs.{pair, pairs_of};
 ghost use Rattle.matching.specs.LookUp.{LookedUp};
 ghost use Rattle.files.specs.Tables.{Holds};
 
-#[derive(Drop)]
+#[derive(Clone, Copy)]
 pub struct LookUp {
     pub found: bool,
     pub looked: usize,

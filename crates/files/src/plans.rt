@@ -17,7 +17,7 @@ use frames::shape::plan_shape;
 use frames::store::store_pairs;
 
 // A plan as it was read: the refusal, or 0 and how many pairs; beside a refusal 0.
-#[derive(Drop)]
+#[derive(Clone, Copy)]
 pub struct Plan {
     pub number: u8,
     pub count: usize,

@@ -19,7 +19,7 @@ use frames::shape::{stock_body, stock_header};
 use frames::store::store_pairs;
 
 // A stock as it was read: the refusal, or 0 and its numbers; beside a refusal they are 0.
-#[derive(Drop)]
+#[derive(Clone, Copy)]
 pub struct StockNumbers {
     pub number: u8,
     pub cameras: usize,

@@ -2,6 +2,8 @@
 //   files_look_up    a pair looked up among the fits of two slices
 //   shorter          how many pairs two slices have
 //   bit              a test as a number
+#![tactic(auto)]
+
 ghost use Rattle.std.specs.Prelude.{◌≡◌, [], ◌∷◌, length};
 ghost use Rattle.counting.specs.Tests.{pick};
 ghost use Rattle.counting.specs.Pairs.{pair, zip_pairs};

@@ -1,4 +1,6 @@
 // Files of hexadecimal frames: read and written.
+#![tactic(auto)]
+
 pub mod numbers; // digits, and numbers of two and four digits
 mod lines; // where a line ends, and whether a file is whole lines of digits
 pub mod shape; // questions 2 to 7, the same for every kind of file

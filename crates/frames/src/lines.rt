@@ -58,7 +58,7 @@ fn first_control(f: &[u8], at: usize) -> usize
 }
 
 // A line: where its bytes end, and where what follows its line end begins.
-#[derive(Drop)]
+#[derive(Clone, Copy)]
 pub(crate) struct Line {
     pub(crate) end: usize,
     pub(crate) next: usize,

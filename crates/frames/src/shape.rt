@@ -19,7 +19,7 @@ use formats::limits::FILE_MOST;
 
 // A kind of file: the header's kind and how many digits follow it, the kinds of its body lines (the same twice where there is one) and how
 // many digits follow each, and the end frame's kind.
-#[derive(Drop)]
+#[derive(Clone, Copy)]
 struct Layout {
     header: usize,
     header_size: usize,
@@ -106,7 +106,7 @@ fn end_fault(g: &[u8], at: usize, end: usize, kind: usize, count: usize) -> u8
 
 // `number` is the first of questions 6 and 7 answered no, or 0; `count` body lines stand before the end frame, `firsts` of them of the first
 // kind. Beside a refusal both are 0.
-#[derive(Drop)]
+#[derive(Clone, Copy)]
 pub struct Body {
     pub number: u8,
     pub count: usize,
@@ -175,7 +175,7 @@ fn body_from(f: &[u8], next: usize, layout: Layout) -> Body
 }
 
 // `number` is the first of questions 2, 3 and 4 answered no, or 0; `next` is where the second line begins, 0 beside a refusal.
-#[derive(Drop)]
+#[derive(Clone, Copy)]
 pub struct Header {
     pub number: u8,
     pub next: usize,
@@ -236,7 +236,7 @@ pub fn stock_body(f: &[u8], next: usize) -> Body
 
 // Header and body of a file that has no question 5: the first of questions 2 to 4, 6 and 7 answered no, or 0; where the second line begins;
 // how many body lines stand before the end frame. Beside a refusal both are 0.
-#[derive(Drop)]
+#[derive(Clone, Copy)]
 pub struct Shape {
     pub number: u8,
     pub next: usize,

@@ -10,7 +10,7 @@ use crate::lines::line_at;
 use crate::numbers::{hex2, hex4};
 
 // A run of lines: how many, and where the line behind it begins.
-#[derive(Drop)]
+#[derive(Clone, Copy)]
 pub struct Run {
     pub count: usize,
     pub next: usize,

@@ -7,6 +7,8 @@
 //   forget       a name and its pairs
 //   numbers      the block's numbers, and its fits
 //   slots        its slots: found, closed up and filled
+#![tactic(auto)]
+
 mod numbers;
 mod slots;
 

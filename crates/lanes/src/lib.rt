@@ -6,6 +6,8 @@
 //   calls                                 what those share: the questions before a file's, a refused call, and an answered one
 //   tallies                               the tally counted up for a caller (L7), by value and lent
 //   verdicts                              a certificate judged against a graph that was read
+#![tactic(auto)]
+
 pub mod budget_calls;
 mod calls;
 pub mod graph_calls;
@@ -29,7 +31,7 @@ use verdicts::judge;
 pub const SERVICE: u32 = 2;
 
 // What one caller's calls came to; a count at its largest stays there.
-#[derive(Drop)]
+#[derive(Clone, Copy)]
 pub struct Counts {
     pub paths: u32,
     pub barriers: u32,
@@ -38,13 +40,13 @@ pub struct Counts {
 }
 
 // Each caller's counts, by the caller's number (document 02, L7).
-#[derive(Drop)]
+#[derive(Clone, Copy)]
 pub struct Tally {
     pub sets: [Counts; CALLERS],
 }
 
 // What a call came to: the count that it adds to.
-#[derive(Drop)]
+#[derive(Clone, Copy)]
 pub enum Outcome {
     Path,
     Barrier,
@@ -53,35 +55,35 @@ pub enum Outcome {
 }
 
 // A call's result: 0 and the answer's bytes at the buffer's front, or the refusal and 0.
-#[derive(Drop)]
+#[derive(Clone, Copy)]
 pub struct Told {
     pub number: u8,
     pub size: u32,
 }
 
 // A call's result and what it came to, before it is counted.
-#[derive(Drop)]
+#[derive(Clone, Copy)]
 pub struct Answer {
     pub told: Told,
     pub outcome: Outcome,
 }
 
 // The budgeted call's result: what is told, and how many searches were run, 0 in a refusal.
-#[derive(Drop)]
+#[derive(Clone, Copy)]
 pub struct Searched {
     pub told: Told,
     pub searches: u8,
 }
 
 // The budgeted call's result and what it came to, before it is counted.
-#[derive(Drop)]
+#[derive(Clone, Copy)]
 pub struct SearchedAnswer {
     pub searched: Searched,
     pub outcome: Outcome,
 }
 
 // The check's answer.
-#[derive(Drop)]
+#[derive(Clone, Copy)]
 pub enum Verdict {
     Refused(u8),
     Yes,

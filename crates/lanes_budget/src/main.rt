@@ -1,4 +1,6 @@
 // Takes a number of searches as its argument, reads a stock from standard input and prints the pairs that so many searches come to; or the refusal.
+#![tactic(auto)]
+
 ghost use Rattle.io.specs.Counts.{IsPrefixLen};
 
 use formats::limits::{FILE_MOST, ROOM};

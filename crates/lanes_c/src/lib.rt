@@ -5,6 +5,8 @@
 //   put_tally                                            a tally as sixteen counts
 //   count                                                one more of the caller's count that an outcome names
 //   pack, pack_searched                                  a call's result as one number; the budgeted call's
+#![tactic(auto)]
+
 ghost use Rattle.std.specs.Prelude.{◌≡◌, ◌≤◌, length, replicate};
 ghost use Rattle.lanes.specs.Entry.{GraphOwes, StockOwes, BudgetOwes, check_post};
 ghost use Rattle.lanes.specs.Tallies.{call, graph, stock, budget, tallied, tally_after};

@@ -1,4 +1,6 @@
 // Reads graph.hex and cert.hex in the current directory and prints whether the certificate is a wanted path or a barrier of the graph; or the refusal.
+#![tactic(auto)]
+
 ghost use Rattle.io.specs.Counts.{IsPrefixLen};
 
 use formats::limits::{FILE_MOST, ROOM};

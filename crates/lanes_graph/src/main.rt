@@ -1,4 +1,6 @@
 // Reads a graph from standard input and prints a regular path from the source to its mate, or the canonical barrier; or the refusal.
+#![tactic(auto)]
+
 use formats::limits::{FILE_MOST, ROOM};
 use lanes_print::print_graph;
 use libc::{STDIN_FILENO, STDOUT_FILENO};

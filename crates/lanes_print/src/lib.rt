@@ -3,6 +3,8 @@
 //   print_graph, print_stock, print_budget, print_check   what each program prints
 //   argument                                              a number of searches as it is typed
 //   show, show_verdict                                    what a call told, and what the check says
+#![tactic(auto)]
+
 mod argument;
 
 ghost use Rattle.std.specs.Prelude.{◌≤◌, length};

@@ -1,5 +1,7 @@
 // Reads a stock from standard input and prints a plan, as many pairs as possible with every lit camera still lit, directly followed by the standing
 // sheet; or the refusal.
+#![tactic(auto)]
+
 use formats::limits::{FILE_MOST, ROOM};
 use lanes_print::print_stock;
 use libc::{STDIN_FILENO, STDOUT_FILENO};

@@ -15,3 +15,4 @@
 //   proofs/Largest                       So p has the greatest number of pairs, and the outer cameras are those that some largest pairing leaves over:
 //                                        the marks of cameras that have a fit are read off the reachable nodes. The fits alone tell the others.
 //   proofs/Plans                         From the lit pairs, path by path until there is none: a plan, or the lit pairs themselves if they are largest.
+#![tactic(auto)]

@@ -3,6 +3,8 @@
 //   table      the doubled table of a row
 //   marks      marks read off the fits and a table of reached nodes
 //   plan       largest pairings: plans and standing sheets
+#![tactic(auto)]
+
 mod marks;
 pub mod plan;
 mod row;

@@ -28,14 +28,14 @@ use formats::limits::{ARCS_MOST, CAMERAS_MOST, SEARCHES_MOST};
 use search::answer::{Sought, path_or_reached};
 
 // How searches ended: how many were run, and whether the last found none.
-#[derive(Drop)]
+#[derive(Clone, Copy)]
 pub struct Ending {
     pub searches: usize,
     pub none: bool,
 }
 
 // How many pairs there are then, and how the searches ended.
-#[derive(Drop)]
+#[derive(Clone, Copy)]
 pub struct PairsFound {
     pub pairs: usize,
     pub ending: Ending,

@@ -19,7 +19,7 @@ use crate::restore::restore;
 use arcs::node::mate_of;
 use formats::limits::MATE_PAIRS_MOST;
 
-#[derive(Drop)]
+#[derive(Clone, Copy)]
 pub enum Sought {
     // The number of the path's arcs.
     Path(usize),

@@ -4,6 +4,8 @@
 //   restore    the path found, restored through its buds
 //   classes    the canonical barrier's class table
 //   answer     a path, or the reachable nodes, or the barrier
+#![tactic(auto)]
+
 pub mod answer;
 mod classes;
 mod queue;

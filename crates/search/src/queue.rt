@@ -18,7 +18,7 @@ use crate::steps::{bud_step, tree_step};
 use arcs::node::{mate_of, wide};
 
 // The clock, which numbers the next event, and the number of nodes in the queue.
-#[derive(Drop)]
+#[derive(Clone, Copy)]
 pub struct Progress {
     pub clock: usize,
     pub count: usize,

@@ -172,7 +172,11 @@ pub least_in : (a : ℕ) (xs : List ℕ) → In (least_of a xs) (a ∷ xs)
 unfolding least_of
 least_in a [] = inl refl
 least_in a (x ∷ xs) =
-    by_test (ltb x a) (λ t. rw t (inr (least_in x xs))) (λ t. rw t (⊎_elim (λ e. inl e) (λ m. inr (inr m)) (least_in a xs)))
+    by_test (ltb x a)
+    (λ t. let e : least_of x xs ≡ least_of a (x ∷ xs) = rw t in subst (λ (y : ℕ). In y (a ∷ x ∷ xs)) e (inr (least_in x xs)))
+    (λ t.
+    let e : least_of a xs ≡ least_of a (x ∷ xs) = rw t in
+    subst (λ (y : ℕ). In y (a ∷ x ∷ xs)) e (⊎_elim (λ e. inl e) (λ m. inr (inr m)) (least_in a xs)))
 
 pub least_le : (a : ℕ) (xs : List ℕ) (x : ℕ) → In x (a ∷ xs) → least_of a xs ≤ x
 unfolding least_of

@@ -76,7 +76,8 @@ pub arc_ends : (g : Graph) (a v : ℕ) (p : List ℕ) → Joins g a v p → (i :
 unfolding nodes_along
 arc_ends g a v [] j i m = absurd m
 arc_ends g a v (k ∷ ks) j i (inl e) =
-    rw e (j.0, inl j.1, inr (nodes_cons g (head g k) ks))
+    subst (λ (x : ℕ). (x < length g.arcs) × In (tail g x) (nodes_along g a (k ∷ ks)) × In (head g x) (nodes_along g a (k ∷ ks))) (sym e)
+    (j.0, inl j.1, inr (nodes_cons g (head g k) ks))
 arc_ends g a v (k ∷ ks) j i (inr m) =
     let r = arc_ends g (head g k) v ks j.2 i m in (r.0, inr r.1, inr r.2)
 

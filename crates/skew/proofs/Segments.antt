@@ -20,12 +20,15 @@ use Rattle.skew.proofs.Mates.{mate_mate}
 use Rattle.skew.proofs.Paths.{joins_end, joins_append, nodes_append, joins_reverse}
 
 module _ {g : Graph} {reached : ℕ → Bool} {via : ℕ → ℕ} where
+  alike : {s t v : ℕ} {p q : List ℕ} → s ≡ t → Seg g reached via s v p → Seg g reached via t v q → p ≡ q
+  alike e done done = refl
+  alike e done (step l n h x y) = absurd (n e)
+  alike e (step l n h x y) done = absurd (n (sym e))
+  alike e (step {v = v} l n h x y) (step k m j u w) =
+      ap₂ (λ (a b : List ℕ). a ++ via v ∷ reverse_map mate b) (alike e x u) (alike refl y w)
+
   pub seg_unique : {s v : ℕ} {p q : List ℕ} → Seg g reached via s v p → Seg g reached via s v q → p ≡ q
-  seg_unique done done = refl
-  seg_unique done (step l n h x y) = absurd (n refl)
-  seg_unique (step l n h x y) done = absurd (n refl)
-  seg_unique (step {v = v} l n h x y) (step k m j u w) =
-      ap₂ (λ (a b : List ℕ). a ++ via v ∷ reverse_map mate b) (seg_unique x u) (seg_unique y w)
+  seg_unique x y = alike refl x y
 
   -- the nodes at which the segment itself spine, its inner segments' left out
   unfoldable pub spine : {s v : ℕ} {p : List ℕ} → Seg g reached via s v p → List ℕ

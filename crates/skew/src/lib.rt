@@ -15,3 +15,4 @@
 //   proofs/BarrierExcludes               A barrier lets no path through: from A no arc leads into A', where the source's mate is; into an Xi a regular path
 //                                        comes by its one entry, and from there into A' leads only that entry's mate.
 // The steps may be taken in any order (proofs/Scan).
+#![tactic(auto)]
