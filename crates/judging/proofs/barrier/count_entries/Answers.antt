@@ -1,0 +1,39 @@
+use mathlib.Core.Logic.{⊎_elim}
+use Prim.Native.Nat.{◌-◌}
+use native.Mathlib.Omega.{arith}
+use lib.ListN.{length}
+use Rattle.counting.specs.Pairs.{zip_pairs}
+use Rattle.skew.specs.Graph.{arcs_of}
+use Rattle.judging.specs.Barriers.{ArcAt, Counting}
+use Rattle.judging.proofs.Barriers.{table_long, table_arc, counting_start, counting_enters, counting_passes, counting_end, counting_small}
+use Rattle.judging.proofs.barrier.count_entries.Goals as goal
+use Rattle.judging.proofs.barrier.count_entries.Goals.{After-wide-h}
+
+-- the arc at hand
+arc : (c : After-wide-h) →
+    let args = c.args in
+    ArcAt args.tails.now args.heads.now (length args.classes.now) c.loop-i.i c.wide-t.result c.wide-h.result
+arc c = table_arc c.requires.covers c.loop-i-test.true c.wide-t.ensures.0 c.wide-h.ensures.0
+
+pub loop-i-init : goal.loop-i-init
+loop-i-init c = counting_start _ _
+
+pub bounds-classes-t : goal.bounds-classes-t
+bounds-classes-t c = (arc (goal.at.bounds-classes-t c).After-wide-h).tail_low
+
+pub bounds-classes-h : goal.bounds-classes-h
+bounds-classes-h c = (arc (goal.at.bounds-classes-h c).After-wide-h).head_low
+
+pub overflow_add-entries : goal.overflow_add-entries
+overflow_add-entries c =
+    omega (arith, counting_small c.loop-i.invariant _ c.wide-c.ensures.1, table_long c.requires.covers, c.requires.tails_len_bound)
+
+pub loop-i-preserved : goal.loop-i-preserved
+loop-i-preserved c =
+    let C = c.loop-i.invariant in
+    let N = (arc (goal.at.loop-i-preserved c).After-wide-h).next in
+    ⊎_elim (λ w. rw w.3 (counting_enters C N w.2.ensures.1 w.0.taken w.2.ensures.0)) (λ w. rw w.1 (counting_passes C N w.0.left))
+    c.if-classes-t-eq1.branch
+
+pub returns : goal.returns
+returns c = counting_end c.loop-i.invariant (omega (arith, table_long c.requires.covers))

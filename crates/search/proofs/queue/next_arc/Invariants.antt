@@ -1,0 +1,13 @@
+-- No arc from `from` to i leaves x.
+use Prim.Native.Nat.{◌-◌}
+use mathlib.Core.Path.{sym, ◌∙◌}
+use native.Mathlib.Omega.{arith}
+use lib.ListN.{length}
+use Rattle.search.proofs.Searches.{Seeking, seeking_start, seeking_next, seeking_end}
+use Rattle.search.proofs.queue.next_arc.Given as goal
+
+abbrev pub invariant-loop-i : goal.invariant-loop-i
+invariant-loop-i l = Seeking l.tails l.x l.from l.i
+
+abbrev pub decreases-loop-i : goal.decreases-loop-i
+decreases-loop-i l = length l.tails - l.i

@@ -1,0 +1,17 @@
+-- The end with the later base goes up, so that the sum of the two birth numbers falls.
+use mathlib.Core.Path.{sym}
+use Prim.Native.Nat.{◌+◌}
+use native.Mathlib.Omega.{arith}
+use lib.ListN.{get_or}
+use Rattle.skew.proofs.Mates.{mate_is, mate_half}
+use Rattle.search.specs.Tables.{Labels, labels}
+use Rattle.search.specs.Queue.{ArcWithin}
+use Rattle.search.proofs.States.{arc_within}
+use Rattle.search.proofs.Ascents.{Ascending, ascending_start, mates, turned, standing, Rising, rising, ascended}
+use Rattle.search.proofs.steps.ascend.Given as goal
+
+abbrev pub invariant-loop-p : goal.invariant-loop-p
+invariant-loop-p l = Ascending l.tails l.heads (labels l.birth l.initial.via l.base) l.i l.i l.via l.mark l.p l.q
+
+abbrev pub decreases-loop-p : goal.decreases-loop-p
+decreases-loop-p l = get_or l.birth l.p 0 + get_or l.birth l.q 0
