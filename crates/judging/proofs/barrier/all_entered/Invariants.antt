@@ -1,11 +1,8 @@
 -- The classes before c passed.
 use Prim.Native.Nat.{suc, ◌≤◌, ◌-◌}
-use native.Mathlib.Omega.{arith}
 use Rattle.counting.specs.Tests.{below}
 use Rattle.counting.specs.Loops.{Judged}
-use Rattle.counting.proofs.Loops.{judged_below}
 use Rattle.judging.specs.Barriers.{entered_once}
-use Rattle.judging.proofs.Barriers.{entered_start, entered_next, entered_fails}
 use Rattle.judging.proofs.barrier.all_entered.Given as goal
 
 abbrev pub invariant-loop-c : goal.invariant-loop-c

@@ -1,12 +1,7 @@
 use mathlib.Core.Path.{sym, ◌∙◌}
-use Prim.Native.Nat.{◌-◌}
 use native.Mathlib.Omega.{arith}
 use lib.ListN.{length}
-use borrow.Author.Tests.{not-true, not-false}
-use Rattle.counting.specs.Pairs.{zip_pairs}
-use Rattle.counting.specs.Loops.{Judged}
 use Rattle.counting.proofs.Loops.{judged_start, judged_next, judged_fails, judged_end}
-use Rattle.skew.specs.Graph.{arcs_of, arc_fits}
 use Rattle.judging.specs.Barriers.{ArcAt}
 use Rattle.judging.proofs.Barriers.{table_long, table_arc}
 use Rattle.judging.proofs.barrier.arcs_fit.Goals as goal

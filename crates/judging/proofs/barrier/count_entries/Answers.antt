@@ -1,13 +1,9 @@
-use mathlib.Core.Logic.{⊎_elim}
-use Prim.Native.Nat.{◌-◌}
 use native.Mathlib.Omega.{arith}
 use lib.ListN.{length}
-use Rattle.counting.specs.Pairs.{zip_pairs}
-use Rattle.skew.specs.Graph.{arcs_of}
-use Rattle.judging.specs.Barriers.{ArcAt, Counting}
+use Rattle.judging.specs.Barriers.{ArcAt}
 use Rattle.judging.proofs.Barriers.{table_long, table_arc, counting_start, counting_enters, counting_passes, counting_end, counting_small}
 use Rattle.judging.proofs.barrier.count_entries.Goals as goal
-use Rattle.judging.proofs.barrier.count_entries.Goals.{After-wide-h}
+use Rattle.judging.proofs.barrier.count_entries.Goals.{After-wide-h, then-classes-t-eq1, else-classes-t-eq1}
 
 -- the arc at hand
 arc : (c : After-wide-h) →
@@ -32,8 +28,10 @@ pub loop-i-preserved : goal.loop-i-preserved
 loop-i-preserved c =
     let C = c.loop-i.invariant in
     let N = (arc (goal.at.loop-i-preserved c).After-wide-h).next in
-    ⊎_elim (λ w. rw w.3 (counting_enters C N w.2.ensures.1 w.0.taken w.2.ensures.0)) (λ w. rw w.1 (counting_passes C N w.0.left))
-    c.if-classes-t-eq1.branch
+    elim c.if-classes-t-eq1.branch [
+      | then-classes-t-eq1 w ↦ rw w.entries-is (counting_enters C N w.wide-c.ensures.1 w.if-classes-t-eq1.true w.wide-c.ensures.0)
+      | else-classes-t-eq1 w ↦ rw w.entries-is (counting_passes C N w.if-classes-t-eq1.false)
+    ]
 
 pub returns : goal.returns
 returns c = counting_end c.loop-i.invariant (omega (arith, table_long c.requires.covers))

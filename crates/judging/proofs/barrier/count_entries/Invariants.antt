@@ -1,12 +1,9 @@
 -- The counters hold the entries of the arcs before i.
-use mathlib.Core.Logic.{⊎_elim}
 use Prim.Native.Nat.{◌-◌}
-use native.Mathlib.Omega.{arith}
 use lib.ListN.{length}
 use Rattle.counting.specs.Pairs.{zip_pairs}
 use Rattle.skew.specs.Graph.{arcs_of}
-use Rattle.judging.specs.Barriers.{ArcAt, Counting}
-use Rattle.judging.proofs.Barriers.{table_long, table_arc, counting_start, counting_enters, counting_passes, counting_end, counting_small}
+use Rattle.judging.specs.Barriers.{Counting}
 use Rattle.judging.proofs.barrier.count_entries.Given as goal
 
 abbrev pub invariant-loop-i : goal.invariant-loop-i

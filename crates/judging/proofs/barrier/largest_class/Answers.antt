@@ -1,4 +1,3 @@
-use Rattle.judging.specs.Barriers.{LargestFrom}
 use Rattle.judging.proofs.Barriers.{largest_start, largest_more, largest_same, largest_end}
 use Rattle.judging.proofs.barrier.largest_class.Goals as goal
 

@@ -1,6 +1,5 @@
 -- The largest of the classes from k on is kept.
 use Rattle.judging.specs.Barriers.{LargestFrom}
-use Rattle.judging.proofs.Barriers.{largest_start, largest_more, largest_same, largest_end}
 use Rattle.judging.proofs.barrier.largest_class.Given as goal
 
 abbrev pub invariant-loop-k : goal.invariant-loop-k

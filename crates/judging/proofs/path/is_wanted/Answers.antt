@@ -1,7 +1,6 @@
-use Prim.Native.Nat.{◌-◌}
 use native.Mathlib.Omega.{arith}
-use lib.ListN.{length, get_or}
-use Rattle.judging.specs.Walks.{ArcInside, Walking}
+use lib.ListN.{get_or}
+use Rattle.judging.specs.Walks.{ArcInside}
 use Rattle.judging.proofs.Walks.{walking_start, walking_inside, walking_apart, walking_seen, walking_used, walking_next, walking_elsewhere, walking_there}
 use Rattle.judging.proofs.path.is_wanted.Goals as goal
 use Rattle.judging.proofs.path.is_wanted.Goals.{In-loop-k}
@@ -13,9 +12,6 @@ inside c = walking_inside c.loop-k.invariant c.loop-k-test.true
 
 pub loop-k-init : goal.loop-k-init
 loop-k-init c = walking_start c.requires
-
-pub overflow_cast-i : goal.overflow_cast-i
-overflow_cast-i c = omega (arith, c.shared_slice_known-in-loop-k-1.given c.loop-k.k)
 
 pub bounds-tails-i : goal.bounds-tails-i
 bounds-tails-i c = (inside (goal.at.bounds-tails-i c).In-loop-k).listed
