@@ -55,6 +55,7 @@ class Function:
         self.needs = table["needs"]
         self.asked = table["asked_at"]
         self.loops = table["loops"]
+        self.params = table["params"]
         self.changed = table["changed"]
         self.places = {}
         for row, new in zip(table["places"], table["places_by_name"]):
@@ -83,7 +84,18 @@ class Function:
             if self.places[at]["old"] and alike(self.places[at]["old"]) == alike(word):
                 return self.places[at]
             at = self.up(at)
-        return None
+        found = [it for it in self.places.values() if it["old"] and alike(it["old"]) == alike(word)]
+        return found[0] if found and len({it["new"] for it in found}) == 1 else None
+
+    def last(self, callee, ts, i):
+        """`.last.1.0` of a call is what its parameter number 1 holds behind it: the text for it, and the index behind."""
+        k, n = i, 0
+        while k + 1 < len(ts) and ts[k] == "." and ts[k + 1] == "1":
+            k, n = k + 2, n + 1
+        names = self.params.get(callee, [])
+        if k + 1 < len(ts) and ts[k] == "." and ts[k + 1] == "0" and n < len(names):
+            return ".new." + names[n], k + 2
+        return None, i
 
 
 class Turn:
@@ -173,6 +185,12 @@ class Turn:
                     kind, callee = "requires", self.f.path
             elif word == "ensures":
                 kind = "ensures"
+            elif word == "last" and callee:
+                text, k = self.f.last(callee, ts, i + 2)
+                if text:
+                    out.append(text)
+                    i = k
+                    continue
             elif kind and word.isdigit() and callee:
                 names = self.f.clauses.get(callee, {}).get(kind, [])
                 if len(names) > 1:
@@ -185,6 +203,8 @@ class Turn:
                 kind = None
             out.append("." + word)
             first, i = False, i + 2
+        if kind is None and len(out) == 1 and callee:
+            kind = "call"
         return "".join(out), i, (kind, callee)
 
     def term(self, ts):
@@ -219,7 +239,19 @@ class Turn:
                             self.clausal[name] = (kind, callee)
                         elif name in self.vars:
                             del self.vars[name]
-            if t in self.clausal and (i == 0 or ts[i - 1] != ".") and i + 2 < len(ts) and ts[i + 1] == "." and ts[i + 2].isdigit():
+            if t in self.clausal and self.clausal[t][0] == "call" and (i == 0 or ts[i - 1] != ".") and i + 1 < len(ts) and ts[i + 1] == ".":
+                callee = self.clausal[t][1]
+                text, k = self.f.last(callee, ts, i + 3) if ts[i + 2] == "last" else (None, i)
+                if text:
+                    out.append(t + text)
+                    i = k
+                    continue
+                names = self.f.clauses.get(callee, {}).get("ensures", [])
+                if ts[i + 2] == "ensures" and len(names) > 1 and i + 4 < len(ts) and ts[i + 3] == "." and ts[i + 4].isdigit() and int(ts[i + 4]) < len(names):
+                    out.append(f"{t}.ensures.{names[int(ts[i + 4])]}")
+                    i += 5
+                    continue
+            if t in self.clausal and self.clausal[t][0] != "call" and (i == 0 or ts[i - 1] != ".") and i + 2 < len(ts) and ts[i + 1] == "." and ts[i + 2].isdigit():
                 kind, callee = self.clausal[t]
                 names = self.f.clauses.get(callee, {}).get(kind, [])
                 k = int(ts[i + 2])
