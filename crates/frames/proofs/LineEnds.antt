@@ -10,7 +10,7 @@
 --   ends_more, feed_ends             whether the last line is ended, past a byte and past a line feed
 --   lines_end, ends_end              the lines, and whether the last is ended, where a line end stands at the front
 --   lines_byte, ends_byte            and where a byte of the line does
-use mathlib.Core.Path.{◌≡◌, refl, ap, ◌∙◌}
+use mathlib.Core.Path.{◌≡◌, refl, sym, ap, ◌∙◌, subst}
 use mathlib.Core.Logic.{◌⊎◌, inl, inr}
 use mathlib.Core.Bool.{Bool, true, false, ◌&&◌, and-false}
 use mathlib.Core.List.{List, [], ◌∷◌}
@@ -111,7 +111,8 @@ crlf_lines c (d ∷ ds) r = rw (r, eqb-true d 10 (and_right (eqb c 13) (eqb d 10
 crlf_ends : (c : ℕ) (cs : List ℕ) → is_cr_lf c cs ≡ true → ends_whole (c ∷ cs) ≡ ends_whole (drop 1 cs)
 unfolding ends_whole
 crlf_ends c [] r = true_false r (and-false (eqb c 13))
-crlf_ends c (d ∷ ds) r = rw (eqb-true d 10 (and_right (eqb c 13) (eqb d 10) r)) (feed_ends ds)
+crlf_ends c (d ∷ ds) r =
+    subst (λ (b : ℕ). ends_whole (c ∷ b ∷ ds) ≡ ends_whole ds) (sym (eqb-true d 10 (and_right (eqb c 13) (eqb d 10) r))) (feed_ends ds)
 
 -- WHAT STANDS AT THE FRONT, by cases: a carriage return and a line feed, a line feed, another byte
 module _ (c : ℕ) (cs : List ℕ) where

@@ -8,7 +8,7 @@ use Rattle.frames.specs.Lines.{line_end, LineAt}
 use Rattle.frames.proofs.LinePlaces.{same_ended}
 use Rattle.frames.proofs.WholeFiles.{DigitsUpTo, digits_start, digits_next, digit_inside, whole_next, fails_other, fails_empty, fails_odd, whole_end, whole_fails}
 use Rattle.frames.proofs.lines.whole.Goals as goal
-use Rattle.frames.proofs.lines.whole.Goals.{After-loop-n, Then-digit_at}
+use Rattle.frames.proofs.lines.whole.Goals.{After-loop-n, Then-digit_at, else-lines-test, then-lines-test+then-loop-n-test+else-digit_at+then-n-eq0, then-lines-test+else-loop-n-test+then-i-at, then-lines-test+else-loop-n-test+else-i-at+then-i-at-ne0}
 
 -- a digit stands inside the file, and a line whose digits end is ended
 inside : (c : Then-digit_at) →
@@ -53,14 +53,15 @@ returns c =
     let f = c.args.f.now in
     let at = c.lines.at in
     let inv = c.lines.invariant.1 in
-    ⊎_elim (λ w. whole_end f at (omega arith) inv)
-    (⊎_elim
-    (λ w. whole_fails f at w.0.taken inv (fails_other w.0.taken w.1.inv.0.line (sym w.3.ensures ∙ w.4.left) (sym w.5.ensures ∙ w.6.taken)))
-    (⊎_elim
-    (λ w.
-    let h = same_ended w.1.inv.0.line w.0.taken (w.1.inv.1 w.2.left) (omega arith) in
-    whole_fails f at w.0.taken inv (fails_empty h w.3.taken))
-    (λ w.
-    let h = same_ended w.1.inv.0.line w.0.taken (w.1.inv.1 w.2.left) (omega arith) in
-    whole_fails f at w.0.taken inv (fails_odd h w.4.taken))))
-    c.lines-test.branch
+    elim c.lines-test.branch [
+      else-lines-test w ↦ whole_end f at (omega arith) inv
+    | then-lines-test+then-loop-n-test+else-digit_at+then-n-eq0 w ↦
+        whole_fails f at w.lines-test.true inv
+        (fails_other w.lines-test.true w.loop-n.invariant.0.line (sym w.digit_at.ensures ∙ w.if-digit_at.false) (sym w.line_end-n.ensures ∙ w.if-n-eq0.true))
+    | then-lines-test+else-loop-n-test+then-i-at w ↦
+        let h = same_ended w.loop-n.invariant.0.line w.lines-test.true (w.loop-n.invariant.1 w.loop-n-test.false) (omega arith) in
+        whole_fails f at w.lines-test.true inv (fails_empty h w.if-i-at.true)
+    | then-lines-test+else-loop-n-test+else-i-at+then-i-at-ne0 w ↦
+        let h = same_ended w.loop-n.invariant.0.line w.lines-test.true (w.loop-n.invariant.1 w.loop-n-test.false) (omega arith) in
+        whole_fails f at w.lines-test.true inv (fails_odd h w.if-i-at-ne0.true)
+    ]

@@ -7,7 +7,7 @@ use borrow.Author.Tests.{eq-eqb, ne_eqb, not-true, not-false}
 use Rattle.counting.proofs.Booleans.{pick_true, pick_false}
 use Rattle.frames.proofs.BodyFrames.{BodyLeft, firsts_past, left_start, left_next, left_end, left_fails, left_none}
 use Rattle.frames.proofs.shape.body_of.Goals as goal
-use Rattle.frames.proofs.shape.body_of.Goals.{Joined-not-is_frame}
+use Rattle.frames.proofs.shape.body_of.Goals.{Joined-not-is_frame, then-not-is_frame+else-not-is_frame-2, else-not-is_frame}
 
 -- past a body line, whichever kind it has
 next_line : (c : Joined-not-is_frame) {m : ℕ} →
@@ -16,9 +16,14 @@ next_line : (c : Joined-not-is_frame) {m : ℕ} →
 next_line c e =
     let framed = sym c.is_frame.ensures in
     let past = left_next c.loop-at.invariant c.line_at-l.ensures (omega arith) in
-    ⊎_elim
-    (λ w. past (w.3 ∙ sym (pick_false _ _ (framed ∙ not-true _ w.0.taken))) (rw w.3 (sym w.1.ensures ∙ not-false _ w.2.left)) e)
-    (λ w. let t = framed ∙ not-false _ w.0.left in past (w.1 ∙ sym (pick_true _ _ t)) (rw w.1 t) e) c.if-not-is_frame.branch
+    elim c.if-not-is_frame.branch [
+      then-not-is_frame+else-not-is_frame-2 w ↦
+        past (w.kind-is ∙ sym (pick_false _ _ (framed ∙ w.if-not-is_frame.true)))
+        (rw w.kind-is (sym w.is_frame-then-not-is_frame.ensures ∙ w.if-not-is_frame-2.false)) e
+    | else-not-is_frame w ↦
+        let t = framed ∙ w.if-not-is_frame.false in
+        past (w.kind-is ∙ sym (pick_true _ _ t)) (rw w.kind-is t) e
+    ]
 
 pub loop-at-init : goal.loop-at-init
 loop-at-init c = left_start _ _
