@@ -1,7 +1,4 @@
-use mathlib.Core.Path.{◌≡◌, refl, sym, ◌∙◌}
-use Prim.Native.Nat.{◌+◌, ◌-◌}
-use lib.ListN.{length, drop}
-use Rattle.frames.specs.Lines.{control_at}
+use mathlib.Core.Path.{refl, sym, ◌∙◌}
 use Rattle.frames.proofs.LinePlaces.{control_next, control_here, control_over}
 use Rattle.frames.proofs.lines.first_control.Goals as goal
 

@@ -1,10 +1,9 @@
 -- `frames::lines::first_control` meets its contract. The invariant: the answer from `at` on is the answer from i on. The measure is what is left of
 -- the file.
-use mathlib.Core.Path.{◌≡◌, refl, sym, ◌∙◌}
+use mathlib.Core.Path.{◌≡◌}
 use Prim.Native.Nat.{◌+◌, ◌-◌}
 use lib.ListN.{length, drop}
 use Rattle.frames.specs.Lines.{control_at}
-use Rattle.frames.proofs.LinePlaces.{control_next, control_here, control_over}
 use Rattle.frames.proofs.lines.first_control.Given as goal
 
 abbrev pub invariant-loop-i : goal.invariant-loop-i

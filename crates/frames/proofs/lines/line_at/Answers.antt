@@ -1,8 +1,6 @@
-use Prim.Native.Nat.{◌-◌}
 use native.Mathlib.Omega.{arith}
-use lib.ListN.{length}
 use Rattle.frames.proofs.LineEnds.{end_within}
-use Rattle.frames.proofs.LinePlaces.{SameLine, same_start, same_control, same_next, same_ended, same_over}
+use Rattle.frames.proofs.LinePlaces.{same_start, same_control, same_next, same_ended, same_over}
 use Rattle.frames.proofs.lines.line_at.Goals as goal
 
 pub loop-end-init : goal.loop-end-init

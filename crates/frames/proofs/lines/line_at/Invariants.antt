@@ -1,10 +1,8 @@
 -- `frames::lines::line_at` meets its contract. The loop's invariant: no line end stands from `from` up to `end`. The measure is what is
 -- left of the file.
 use Prim.Native.Nat.{◌-◌}
-use native.Mathlib.Omega.{arith}
 use lib.ListN.{length}
-use Rattle.frames.proofs.LineEnds.{end_within}
-use Rattle.frames.proofs.LinePlaces.{SameLine, same_start, same_control, same_next, same_ended, same_over}
+use Rattle.frames.proofs.LinePlaces.{SameLine}
 use Rattle.frames.proofs.lines.line_at.Given as goal
 
 abbrev pub invariant-loop-end : goal.invariant-loop-end

@@ -1,12 +1,10 @@
-use mathlib.Core.Path.{◌≡◌, refl, sym, ◌∙◌}
-use mathlib.Core.Logic.{⊎_elim}
-use Prim.Native.Nat.{◌+◌, ◌-◌, ◌≤◌, ◌<◌}
+use mathlib.Core.Path.{refl, sym, ◌∙◌}
+use Prim.Native.Nat.{◌+◌, ◌<◌}
 use native.Mathlib.Omega.{arith}
-use lib.ListN.{length, drop}
-use Rattle.frames.specs.Frames.{is_whole_file}
-use Rattle.frames.specs.Lines.{line_end, LineAt}
+use lib.ListN.{length}
+use Rattle.frames.specs.Lines.{LineAt}
 use Rattle.frames.proofs.LinePlaces.{same_ended}
-use Rattle.frames.proofs.WholeFiles.{DigitsUpTo, digits_start, digits_next, digit_inside, whole_next, fails_other, fails_empty, fails_odd, whole_end, whole_fails}
+use Rattle.frames.proofs.WholeFiles.{digits_start, digits_next, digit_inside, whole_next, fails_other, fails_empty, fails_odd, whole_end, whole_fails}
 use Rattle.frames.proofs.lines.whole.Goals as goal
 use Rattle.frames.proofs.lines.whole.Goals.{After-loop-n, Then-digit_at, else-lines-test, then-lines-test+then-loop-n-test+else-digit_at+then-n-eq0, then-lines-test+else-loop-n-test+then-i-at, then-lines-test+else-loop-n-test+else-i-at+then-i-at-ne0}
 
@@ -54,14 +52,14 @@ returns c =
     let at = c.lines.at in
     let inv = c.lines.invariant.1 in
     elim c.lines-test.branch [
-      else-lines-test w ↦ whole_end f at (omega arith) inv
-    | then-lines-test+then-loop-n-test+else-digit_at+then-n-eq0 w ↦
-        whole_fails f at w.lines-test.true inv
-        (fails_other w.lines-test.true w.loop-n.invariant.0.line (sym w.digit_at.ensures ∙ w.if-digit_at.false) (sym w.line_end-n.ensures ∙ w.if-n-eq0.true))
-    | then-lines-test+else-loop-n-test+then-i-at w ↦
-        let h = same_ended w.loop-n.invariant.0.line w.lines-test.true (w.loop-n.invariant.1 w.loop-n-test.false) (omega arith) in
-        whole_fails f at w.lines-test.true inv (fails_empty h w.if-i-at.true)
-    | then-lines-test+else-loop-n-test+else-i-at+then-i-at-ne0 w ↦
-        let h = same_ended w.loop-n.invariant.0.line w.lines-test.true (w.loop-n.invariant.1 w.loop-n-test.false) (omega arith) in
-        whole_fails f at w.lines-test.true inv (fails_odd h w.if-i-at-ne0.true)
+      | else-lines-test w ↦ whole_end f at (omega arith) inv
+      | then-lines-test+then-loop-n-test+else-digit_at+then-n-eq0 w ↦
+          whole_fails f at w.lines-test.true inv
+          (fails_other w.lines-test.true w.loop-n.invariant.0.line (sym w.digit_at.ensures ∙ w.if-digit_at.false) (sym w.line_end-n.ensures ∙ w.if-n-eq0.true))
+      | then-lines-test+else-loop-n-test+then-i-at w ↦
+          let h = same_ended w.loop-n.invariant.0.line w.lines-test.true (w.loop-n.invariant.1 w.loop-n-test.false) (omega arith) in
+          whole_fails f at w.lines-test.true inv (fails_empty h w.if-i-at.true)
+      | then-lines-test+else-loop-n-test+else-i-at+then-i-at-ne0 w ↦
+          let h = same_ended w.loop-n.invariant.0.line w.lines-test.true (w.loop-n.invariant.1 w.loop-n-test.false) (omega arith) in
+          whole_fails f at w.lines-test.true inv (fails_odd h w.if-i-at-ne0.true)
     ]

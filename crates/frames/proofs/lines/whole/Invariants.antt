@@ -1,15 +1,12 @@
 -- `frames::lines::whole` meets its contract. The outer loop's invariant: the answer for the file is the answer for what is left from `at`
 -- on. The inner loop's: digits of one line stand from `at` up to `i`, and n, once it is not 0, is the line end at `i`. The measures are
 -- what is left of the file, and for the inner loop 1 more until the line end is found.
-use mathlib.Core.Path.{◌≡◌, refl, sym, ◌∙◌}
-use mathlib.Core.Logic.{⊎_elim}
-use Prim.Native.Nat.{◌+◌, ◌-◌, ◌≤◌, ◌<◌}
-use native.Mathlib.Omega.{arith}
+use mathlib.Core.Path.{◌≡◌}
+use Prim.Native.Nat.{◌+◌, ◌-◌, ◌≤◌}
 use lib.ListN.{length, drop}
 use Rattle.frames.specs.Frames.{is_whole_file}
-use Rattle.frames.specs.Lines.{line_end, LineAt}
-use Rattle.frames.proofs.LinePlaces.{same_ended}
-use Rattle.frames.proofs.WholeFiles.{DigitsUpTo, digits_start, digits_next, digit_inside, whole_next, fails_other, fails_empty, fails_odd, whole_end, whole_fails}
+use Rattle.frames.specs.Lines.{line_end}
+use Rattle.frames.proofs.WholeFiles.{DigitsUpTo}
 use Rattle.frames.proofs.lines.whole.Given as goal
 
 abbrev pub invariant-loop-n : goal.invariant-loop-n

@@ -1,9 +1,7 @@
 use mathlib.Core.Path.{◌≡◌, sym, ◌∙◌}
-use mathlib.Core.Logic.{⊎_elim}
-use Prim.Native.Nat.{ℕ, ◌-◌, ◌+◌}
+use Prim.Native.Nat.{ℕ, ◌+◌}
 use native.Mathlib.Omega.{arith}
-use lib.ListN.{length}
-use borrow.Author.Tests.{eq-eqb, ne_eqb, not-true, not-false}
+use borrow.Author.Tests.{eq-eqb, ne_eqb}
 use Rattle.counting.proofs.Booleans.{pick_true, pick_false}
 use Rattle.frames.proofs.BodyFrames.{BodyLeft, firsts_past, left_start, left_next, left_end, left_fails, left_none}
 use Rattle.frames.proofs.shape.body_of.Goals as goal
@@ -17,12 +15,12 @@ next_line c e =
     let framed = sym c.is_frame.ensures in
     let past = left_next c.loop-at.invariant c.line_at-l.ensures (omega arith) in
     elim c.if-not-is_frame.branch [
-      then-not-is_frame+else-not-is_frame-2 w ↦
-        past (w.kind-is ∙ sym (pick_false _ _ (framed ∙ w.if-not-is_frame.true)))
-        (rw w.kind-is (sym w.is_frame-then-not-is_frame.ensures ∙ w.if-not-is_frame-2.false)) e
-    | else-not-is_frame w ↦
-        let t = framed ∙ w.if-not-is_frame.false in
-        past (w.kind-is ∙ sym (pick_true _ _ t)) (rw w.kind-is t) e
+      | then-not-is_frame+else-not-is_frame-2 w ↦
+          past (w.kind-is ∙ sym (pick_false _ _ (framed ∙ w.if-not-is_frame.true)))
+          (rw w.kind-is (sym w.is_frame-then-not-is_frame.ensures ∙ w.if-not-is_frame-2.false)) e
+      | else-not-is_frame w ↦
+          let t = framed ∙ w.if-not-is_frame.false in
+          past (w.kind-is ∙ sym (pick_true _ _ t)) (rw w.kind-is t) e
     ]
 
 pub loop-at-init : goal.loop-at-init

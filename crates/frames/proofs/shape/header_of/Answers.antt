@@ -1,6 +1,5 @@
 -- `frames::shape::header_of` meets its contract: one answer for each way questions 2, 3 and 4 end.
 use mathlib.Core.Path.{sym, ◌∙◌}
-use borrow.Author.Tests.{not-true, not-false}
 use Rattle.frames.proofs.HeaderFrames.{answer_two, answer_three, answer_empty, answer_other, answer_none}
 use Rattle.frames.proofs.shape.header_of.Goals as goal
 

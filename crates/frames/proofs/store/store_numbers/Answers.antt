@@ -1,11 +1,11 @@
 use mathlib.Core.Path.{◌≡◌, sym, ◌∙◌}
-use Prim.Native.Nat.{◌-◌, ◌<◌}
+use Prim.Native.Nat.{◌<◌}
 use native.Mathlib.Omega.{arith}
 use lib.ListN.{length}
 use Rattle.counting.proofs.Loops.{storing_start}
 use Rattle.frames.specs.Frames.{hex_at}
 use Rattle.frames.specs.Stores.{run_at}
-use Rattle.frames.proofs.Stores.{Passing, Filling, LineNumbers, line_numbers, passing_start, passing_room, passing_next, filling_next, stopped_other, stopped_over, stored_numbers}
+use Rattle.frames.proofs.Stores.{LineNumbers, line_numbers, passing_start, passing_room, passing_next, filling_next, stopped_other, stopped_over, stored_numbers}
 use Rattle.frames.proofs.store.store_numbers.Goals as goal
 use Rattle.frames.proofs.store.store_numbers.Goals.{After-line_at-l, Else-hex2-kind}
 

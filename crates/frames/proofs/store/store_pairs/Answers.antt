@@ -1,11 +1,11 @@
 use mathlib.Core.Path.{◌≡◌, sym, ◌∙◌}
-use Prim.Native.Nat.{◌-◌, ◌<◌}
+use Prim.Native.Nat.{◌<◌}
 use native.Mathlib.Omega.{arith}
 use lib.ListN.{length}
 use Rattle.counting.proofs.Loops.{storing_start}
 use Rattle.frames.specs.Frames.{hex_at}
 use Rattle.frames.specs.Stores.{run_at}
-use Rattle.frames.proofs.Stores.{Passing, Filling, LineNumbers, line_numbers, passing_start, passing_room, passing_next, filling_next, stopped_other, stopped_over, stored_pairs}
+use Rattle.frames.proofs.Stores.{LineNumbers, line_numbers, passing_start, passing_room, passing_next, filling_next, stopped_other, stopped_over, stored_pairs}
 use Rattle.frames.proofs.store.store_pairs.Goals as goal
 use Rattle.frames.proofs.store.store_pairs.Goals.{After-line_at-l, Else-hex2-kind}
 
@@ -53,9 +53,9 @@ pub loop-i-preserved : goal.loop-i-preserved
 loop-i-preserved c =
     let v = c.loop-i.invariant in
     let l = c.line_at-l.ensures in (
-    passing_next l v.0 (is_of_kind (goal.at.loop-i-preserved c).Else-hex2-kind),
-    rw c.hex2-in-loop-i.ensures.is (filling_next l v.0 (is_of_kind (goal.at.loop-i-preserved c).Else-hex2-kind) 2 2 (omega arith) v.1),
-    rw c.hex2-in-loop-i-2.ensures.is (filling_next l v.0 (is_of_kind (goal.at.loop-i-preserved c).Else-hex2-kind) 4 2 (omega arith) v.2),
+      passing_next l v.0 (is_of_kind (goal.at.loop-i-preserved c).Else-hex2-kind),
+      rw c.hex2-in-loop-i.ensures.is (filling_next l v.0 (is_of_kind (goal.at.loop-i-preserved c).Else-hex2-kind) 2 2 (omega arith) v.1),
+      rw c.hex2-in-loop-i-2.ensures.is (filling_next l v.0 (is_of_kind (goal.at.loop-i-preserved c).Else-hex2-kind) 4 2 (omega arith) v.2),
     )
 
 pub returns : goal.returns

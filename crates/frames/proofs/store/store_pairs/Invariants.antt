@@ -1,12 +1,7 @@
 -- The invariant: part of the run is passed, and both slices are filled so far. The measure is what is left of the file.
-use mathlib.Core.Path.{◌≡◌, sym, ◌∙◌}
-use Prim.Native.Nat.{◌-◌, ◌<◌}
-use native.Mathlib.Omega.{arith}
+use Prim.Native.Nat.{◌-◌}
 use lib.ListN.{length}
-use Rattle.counting.proofs.Loops.{storing_start}
-use Rattle.frames.specs.Frames.{hex_at}
-use Rattle.frames.specs.Stores.{run_at}
-use Rattle.frames.proofs.Stores.{Passing, Filling, LineNumbers, line_numbers, passing_start, passing_room, passing_next, filling_next, stopped_other, stopped_over, stored_pairs}
+use Rattle.frames.proofs.Stores.{Passing, Filling}
 use Rattle.frames.proofs.store.store_pairs.Given as goal
 
 abbrev pub invariant-loop-i : goal.invariant-loop-i

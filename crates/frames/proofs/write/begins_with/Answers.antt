@@ -1,8 +1,5 @@
-use mathlib.Core.Path.{◌≡◌, refl, sym, ◌∙◌}
-use Prim.Native.Nat.{◌-◌}
+use mathlib.Core.Path.{refl, sym, ◌∙◌}
 use native.Mathlib.Omega.{arith}
-use lib.ListN.{length, drop}
-use Rattle.frames.specs.Writes.{begins_with}
 use Rattle.frames.proofs.Begins.{begins_short, begins_next, begins_fails, begins_end}
 use Rattle.frames.proofs.write.begins_with.Goals as goal
 

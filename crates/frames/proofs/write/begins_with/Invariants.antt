@@ -1,10 +1,8 @@
 -- The invariant: the answer for the whole is the answer for what is left. The measure is what is left of the text.
-use mathlib.Core.Path.{◌≡◌, refl, sym, ◌∙◌}
+use mathlib.Core.Path.{◌≡◌}
 use Prim.Native.Nat.{◌-◌}
-use native.Mathlib.Omega.{arith}
 use lib.ListN.{length, drop}
 use Rattle.frames.specs.Writes.{begins_with}
-use Rattle.frames.proofs.Begins.{begins_short, begins_next, begins_fails, begins_end}
 use Rattle.frames.proofs.write.begins_with.Given as goal
 
 abbrev pub invariant-loop-i : goal.invariant-loop-i

@@ -1,8 +1,6 @@
 use mathlib.Core.Path.{refl}
-use Prim.Native.Nat.{◌+◌, ◌-◌}
 use native.Mathlib.Nat.{add-zero}
-use lib.ListN.{length, drop, drop_of_length-le}
-use Rattle.counting.specs.Loops.{Storing}
+use lib.ListN.{drop_of_length-le}
 use Rattle.counting.proofs.Loops.{storing_start}
 use Rattle.frames.proofs.Writes.{text_next, text_end}
 use Rattle.frames.proofs.write.put_text.Goals as goal
