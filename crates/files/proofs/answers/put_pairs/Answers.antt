@@ -1,0 +1,18 @@
+use Prim.Native.Nat.{ℕ, ◌-◌}
+use native.Mathlib.Omega.{arith}
+use lib.ListN.{length, get_or}
+use Rattle.formats.specs.Kinds.{pair_kind}
+use Rattle.frames.specs.Frames.{frame6}
+use Rattle.frames.proofs.Writes.{frame6_length}
+use Rattle.files.specs.Answers.{Writing}
+use Rattle.files.proofs.AnswerLines.{writing_start, writing_next, writing_end}
+use Rattle.files.proofs.answers.put_pairs.Goals as goal
+
+pub loop-i-init : goal.loop-i-init
+loop-i-init c = writing_start _ _ _ _
+
+pub loop-i-preserved : goal.loop-i-preserved
+loop-i-preserved c = writing_next c.loop-i.invariant c.loop-i-test.true c.put_frame6-next.ensures
+
+pub returns : goal.returns
+returns c = writing_end c.loop-i.invariant (λ i x. frame6_length pair_kind x _) c.loop-i-test.false
