@@ -3,9 +3,7 @@ use Prim.Native.Nat.{ℕ, ◌-◌}
 use lib.ListN.{length}
 use Rattle.formats.specs.Kinds.{step_kind}
 use Rattle.frames.specs.Frames.{frame_of4}
-use Rattle.frames.proofs.Writes.{frame_of4_length}
 use Rattle.files.specs.Answers.{Writing}
-use Rattle.files.proofs.AnswerLines.{writing_start, writing_next, writing_end}
 use Rattle.files.proofs.answers.put_arcs.Given as goal
 
 abbrev pub invariant-loop-i : goal.invariant-loop-i

@@ -1,9 +1,4 @@
-use Prim.Native.Nat.{◌-◌}
-use native.Mathlib.Omega.{arith}
-use lib.ListN.{length}
-use Rattle.frames.specs.Frames.{frame6}
 use Rattle.frames.proofs.Writes.{frame6_length}
-use Rattle.files.specs.Answers.{Writing}
 use Rattle.files.proofs.AnswerLines.{writing_start, writing_next, writing_end}
 use Rattle.files.proofs.answers.put_numbered.Goals as goal
 

@@ -1,10 +1,5 @@
-use Prim.Native.Nat.{ℕ, ◌-◌}
-use native.Mathlib.Omega.{arith}
-use lib.ListN.{length, get_or}
 use Rattle.formats.specs.Kinds.{pair_kind}
-use Rattle.frames.specs.Frames.{frame6}
 use Rattle.frames.proofs.Writes.{frame6_length}
-use Rattle.files.specs.Answers.{Writing}
 use Rattle.files.proofs.AnswerLines.{writing_start, writing_next, writing_end}
 use Rattle.files.proofs.answers.put_pairs.Goals as goal
 

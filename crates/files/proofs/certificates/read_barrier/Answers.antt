@@ -1,6 +1,5 @@
 -- `files::certificates::read_barrier` meets its contract: one law for each way a barrier's questions end.
 use mathlib.Core.Path.{sym, ◌∙◌}
-use borrow.Author.Tests.{not-true, not-false}
 use Rattle.files.proofs.CertificateFiles.{barrier_shape, barrier_size, barrier_room, barrier_holds, barrier_read}
 use Rattle.files.proofs.certificates.read_barrier.Goals as goal
 

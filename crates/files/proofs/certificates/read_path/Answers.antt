@@ -1,7 +1,6 @@
 -- `files::certificates::read_path` meets its contract: one law for each way a path's questions end.
 use mathlib.Core.Path.{sym, ◌∙◌}
 use native.Mathlib.Omega.{arith}
-use borrow.Author.Tests.{not-true, not-false}
 use Rattle.files.proofs.CertificateFiles.{path_shape, path_many, path_room, path_holds, path_read}
 use Rattle.files.proofs.certificates.read_path.Goals as goal
 

@@ -1,6 +1,5 @@
 -- `files::graphs::arcs_fault` meets its contract: one number for each question.
 use mathlib.Core.Path.{sym, ◌∙◌}
-use borrow.Author.Tests.{not-true, not-false}
 use Rattle.files.proofs.PairScans.{arcs_named}
 use Rattle.files.proofs.graphs.arcs_fault.Goals as goal
 

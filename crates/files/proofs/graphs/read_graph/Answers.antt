@@ -1,7 +1,6 @@
 -- `files::graphs::read_graph` meets its contract: one law for each way the questions end.
 use mathlib.Core.Path.{sym, ◌∙◌}
 use native.Mathlib.Omega.{arith}
-use borrow.Author.Tests.{not-true, not-false}
 use Rattle.files.proofs.GraphFiles.{GraphBody, graph_header, header_long, header_next, graph_five, graph_body, body_read, graph_odd, graph_many, graph_room, graph_holds, no_graph, graph_read}
 use Rattle.files.proofs.graphs.read_graph.Goals as goal
 use Rattle.files.proofs.graphs.read_graph.Goals.{Else-number-ne0-2}

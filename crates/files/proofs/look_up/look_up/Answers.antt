@@ -1,8 +1,6 @@
 use mathlib.Core.Path.{sym}
 use mathlib.Core.Logic.{inl, inr}
-use Prim.Native.Nat.{◌-◌}
-use Rattle.counting.specs.Pairs.{pair}
-use Rattle.files.proofs.PairScans.{Looking, look_start, look_end, look_next, look_fails, look_settled}
+use Rattle.files.proofs.PairScans.{look_start, look_end, look_next, look_fails, look_settled}
 use Rattle.files.proofs.look_up.look_up.Goals as goal
 use Rattle.files.proofs.look_up.look_up.Goals.{then-u-firsts+else-u-firsts-2+else-v-seconds, else-u-firsts}
 
@@ -19,9 +17,9 @@ pub loop-i-preserved : goal.loop-i-preserved
 loop-i-preserved c =
     look_next c.requires c.loop-i.invariant c.loop-i-test.true
     (elim c.if-u-firsts.branch [
-        then-u-firsts+else-u-firsts-2+else-v-seconds w ↦ inr (sym w.if-u-firsts-2.false, w.if-v-seconds.false)
+      | then-u-firsts+else-u-firsts-2+else-v-seconds w ↦ inr (sym w.if-u-firsts-2.false, w.if-v-seconds.false)
       | else-u-firsts w ↦ inl w.if-u-firsts.false
-      ])
+    ])
 
 pub returns : goal.returns
 returns c = look_end c.requires c.loop-i.invariant c.loop-i-test.false

@@ -1,9 +1,7 @@
 -- `files::look_up::look_up` meets its contract: what is asked of the whole is what is asked from `i` on, and `i` fits are passed.
-use mathlib.Core.Path.{sym}
-use mathlib.Core.Logic.{inl, inr, ⊎_elim}
 use Prim.Native.Nat.{◌-◌}
 use Rattle.counting.specs.Pairs.{pair}
-use Rattle.files.proofs.PairScans.{Looking, look_start, look_end, look_next, look_fails, look_settled}
+use Rattle.files.proofs.PairScans.{Looking}
 use Rattle.files.proofs.look_up.look_up.Given as goal
 
 abbrev pub invariant-loop-i : goal.invariant-loop-i

@@ -1,6 +1,5 @@
 -- `files::plans::pairing_fault` meets its contract: question 9, then those of the pairs against the fits.
 use mathlib.Core.Path.{sym, ◌∙◌}
-use borrow.Author.Tests.{not-true, not-false}
 use Rattle.files.proofs.plans.pairing_fault.Goals as goal
 
 pub returns-then-not-are_named : goal.returns-then-not-are_named

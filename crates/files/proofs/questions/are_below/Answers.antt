@@ -1,10 +1,5 @@
-use Prim.Native.Nat.{ℕ, ◌-◌}
-use native.Mathlib.Omega.{arith}
-use lib.Dec.{ltb}
-use lib.ListN.{take}
 use lib.Seq.{length-take-le}
 use borrow.Author.Tests.{lt-ltb, le-ltb}
-use Rattle.counting.specs.Loops.{Judged}
 use Rattle.counting.proofs.Loops.{next_front, judged_start, judged_next, judged_fails, judged_end}
 use Rattle.files.proofs.questions.are_below.Goals as goal
 

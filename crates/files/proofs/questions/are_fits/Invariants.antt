@@ -1,13 +1,8 @@
 -- `files::questions::are_fits` meets its contract: what is asked of the whole is what is asked from `i` on.
-use mathlib.Core.Path.{sym, ◌∙◌}
 use Prim.Native.Nat.{◌-◌}
-use native.Mathlib.Omega.{arith}
-use borrow.Author.Tests.{not-true, not-false}
 use Rattle.counting.specs.Pairs.{pairs_of}
 use Rattle.counting.specs.Loops.{Judged}
-use Rattle.counting.proofs.Loops.{judged_start, judged_next, judged_fails, judged_end}
 use Rattle.matching.specs.LookUp.{is_found}
-use Rattle.files.proofs.Tables.{pairs_length, pairs_next}
 use Rattle.files.proofs.questions.are_fits.Given as goal
 
 abbrev pub invariant-loop-i : goal.invariant-loop-i

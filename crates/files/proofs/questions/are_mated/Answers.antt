@@ -1,9 +1,8 @@
 use mathlib.Core.Path.{◌≡◌, refl, ap, sym, ◌∙◌}
-use Prim.Native.Nat.{◌+◌, ◌-◌}
+use Prim.Native.Nat.{◌+◌}
 use native.Mathlib.Omega.{arith}
-use lib.ListN.{drop, get_or}
-use Rattle.skew.specs.Graph.{arcs_of, mate, mates_fit}
-use Rattle.counting.specs.Pairs.{pairs_of}
+use lib.ListN.{get_or}
+use Rattle.skew.specs.Graph.{mate}
 use Rattle.files.proofs.PairScans.{mates_end, mates_last, mates_next, mates_fails_tail, mates_fails_head}
 use Rattle.files.proofs.questions.are_mated.Goals as goal
 use Rattle.files.proofs.questions.are_mated.Goals.{After-mate_of, After-mate_of-in-loop-i}

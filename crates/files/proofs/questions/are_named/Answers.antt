@@ -1,9 +1,6 @@
-use Prim.Native.Nat.{◌-◌}
 use mathlib.Core.Bool.{and-false}
 use native.Mathlib.Omega.{arith}
 use borrow.Author.Tests.{lt-ltb, le-ltb}
-use Rattle.counting.specs.Pairs.{pairs_of, pair_named}
-use Rattle.counting.specs.Loops.{Judged}
 use Rattle.counting.proofs.Loops.{judged_start, judged_next, judged_fails, judged_end}
 use Rattle.files.proofs.Tables.{pairs_length, pairs_next}
 use Rattle.files.proofs.questions.are_named.Goals as goal

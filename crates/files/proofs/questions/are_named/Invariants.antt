@@ -1,12 +1,7 @@
 -- `files::questions::are_named` meets its contract: what is asked of all pairs is what is asked from `i` on.
 use Prim.Native.Nat.{◌-◌}
-use mathlib.Core.Bool.{and-false}
-use native.Mathlib.Omega.{arith}
-use borrow.Author.Tests.{lt-ltb, le-ltb}
 use Rattle.counting.specs.Pairs.{pairs_of, pair_named}
 use Rattle.counting.specs.Loops.{Judged}
-use Rattle.counting.proofs.Loops.{judged_start, judged_next, judged_fails, judged_end}
-use Rattle.files.proofs.Tables.{pairs_length, pairs_next}
 use Rattle.files.proofs.questions.are_named.Given as goal
 
 abbrev pub invariant-loop-i : goal.invariant-loop-i

@@ -1,9 +1,4 @@
-use mathlib.Core.Path.{◌≡◌, refl, sym, ◌∙◌}
-use Prim.Native.Nat.{◌-◌}
-use native.Mathlib.Omega.{arith}
-use lib.ListN.{drop}
-use Rattle.counting.specs.Pairs.{pairs_of}
-use Rattle.files.specs.CertificateFile.{names_in_order}
+use mathlib.Core.Path.{refl, sym, ◌∙◌}
 use Rattle.files.proofs.PairScans.{order_end, order_next, order_fails_name, order_fails_class}
 use Rattle.files.proofs.questions.in_order.Goals as goal
 

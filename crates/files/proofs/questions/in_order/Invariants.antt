@@ -1,11 +1,9 @@
 -- `files::questions::in_order` meets its contract: what is asked of the whole is what is asked from `i` on.
-use mathlib.Core.Path.{◌≡◌, refl, sym, ◌∙◌}
+use mathlib.Core.Path.{◌≡◌}
 use Prim.Native.Nat.{◌-◌}
-use native.Mathlib.Omega.{arith}
 use lib.ListN.{drop}
 use Rattle.counting.specs.Pairs.{pairs_of}
 use Rattle.files.specs.CertificateFile.{names_in_order}
-use Rattle.files.proofs.PairScans.{order_end, order_next, order_fails_name, order_fails_class}
 use Rattle.files.proofs.questions.in_order.Given as goal
 
 abbrev pub invariant-loop-i : goal.invariant-loop-i

@@ -1,11 +1,8 @@
-use mathlib.Core.Path.{◌≡◌, refl, sym, ◌∙◌}
-use Prim.Native.Nat.{◌<◌, ◌-◌}
+use mathlib.Core.Path.{refl, sym, ◌∙◌}
 use native.Mathlib.Omega.{arith}
-use lib.ListN.{length, get_or, drop, length-set}
+use lib.ListN.{length-set}
 use Rattle.counting.specs.Tests.{all}
-use Rattle.matching.specs.Stock.{none_shared}
-use Rattle.counting.specs.Pairs.{pairs_of}
-use Rattle.files.proofs.SharedCameras.{shares_none, shared_start, shared_next, shared_fails_first, shared_fails_second, shared_end}
+use Rattle.files.proofs.SharedCameras.{shared_start, shared_next, shared_fails_first, shared_fails_second, shared_end}
 use Rattle.files.proofs.questions.none_shared.Goals as goal
 
 pub loop-i-init : goal.loop-i-init

@@ -1,12 +1,10 @@
 -- `files::questions::none_shared` meets its contract: what is asked of the whole is what is asked from `i` on.
-use mathlib.Core.Path.{◌≡◌, refl, sym, ◌∙◌}
-use Prim.Native.Nat.{◌<◌, ◌-◌}
-use native.Mathlib.Omega.{arith}
-use lib.ListN.{length, get_or, drop, length-set}
-use Rattle.counting.specs.Tests.{all}
+use mathlib.Core.Path.{◌≡◌}
+use Prim.Native.Nat.{◌-◌}
+use lib.ListN.{length, drop}
 use Rattle.matching.specs.Stock.{none_shared}
 use Rattle.counting.specs.Pairs.{pairs_of}
-use Rattle.files.proofs.SharedCameras.{shares_none, shared_start, shared_next, shared_fails_first, shared_fails_second, shared_end}
+use Rattle.files.proofs.SharedCameras.{shares_none}
 use Rattle.files.proofs.questions.none_shared.Given as goal
 
 abbrev pub invariant-loop-i : goal.invariant-loop-i

@@ -1,10 +1,5 @@
-use mathlib.Core.Path.{◌≡◌, refl, sym, ◌∙◌}
-use Prim.Native.Nat.{◌-◌}
+use mathlib.Core.Path.{refl, sym, ◌∙◌}
 use native.Mathlib.Omega.{arith}
-use borrow.Author.Tests.{not-true, not-false}
-use lib.ListN.{drop}
-use Rattle.matching.specs.Stock.{pairs_rise}
-use Rattle.counting.specs.Pairs.{pairs_of}
 use Rattle.files.proofs.PairScans.{rise_end, rise_fails_pair, rise_last, rise_next, rise_fails_order}
 use Rattle.files.proofs.questions.pairs_rise.Goals as goal
 

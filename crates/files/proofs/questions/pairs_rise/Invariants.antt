@@ -1,12 +1,9 @@
 -- `files::questions::pairs_rise` meets its contract: what is asked of the whole is what is asked from `i` on.
-use mathlib.Core.Path.{◌≡◌, refl, sym, ◌∙◌}
+use mathlib.Core.Path.{◌≡◌}
 use Prim.Native.Nat.{◌-◌}
-use native.Mathlib.Omega.{arith}
-use borrow.Author.Tests.{not-true, not-false}
 use lib.ListN.{drop}
 use Rattle.matching.specs.Stock.{pairs_rise}
 use Rattle.counting.specs.Pairs.{pairs_of}
-use Rattle.files.proofs.PairScans.{rise_end, rise_fails_pair, rise_last, rise_next, rise_fails_order}
 use Rattle.files.proofs.questions.pairs_rise.Given as goal
 
 abbrev pub invariant-loop-i : goal.invariant-loop-i

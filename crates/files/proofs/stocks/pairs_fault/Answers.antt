@@ -1,6 +1,5 @@
 -- `files::stocks::pairs_fault` meets its contract: one number for each question, and past 11 those of the lit pairs against the fits.
 use mathlib.Core.Path.{sym, ◌∙◌}
-use borrow.Author.Tests.{not-true, not-false}
 use Rattle.counting.specs.Pairs.{pairs_of}
 use Rattle.files.proofs.Asked.{lit_asked}
 use Rattle.files.proofs.stocks.pairs_fault.Goals as goal
@@ -15,9 +14,9 @@ returns-then-not-are_named-2 c =
 pub returns-then-not-pairs_rise : goal.returns-then-not-pairs_rise
 returns-then-not-pairs_rise c =
     rw (
-    sym c.are_named.ensures ∙ c.if-not-are_named.false,
-    sym c.are_named-2.ensures ∙ c.if-not-are_named-2.false,
-    sym c.pairs_rise.ensures ∙ c.if-not-pairs_rise.true,
+      sym c.are_named.ensures ∙ c.if-not-are_named.false,
+      sym c.are_named-2.ensures ∙ c.if-not-are_named-2.false,
+      sym c.pairs_rise.ensures ∙ c.if-not-pairs_rise.true,
     )
 
 pub returns : goal.returns
