@@ -13,10 +13,6 @@
 --   GraphCalls       what the graph call answers
 --   StockCalls       what the stock call answers
 --   BudgetCalls      what the budgeted call answers
---   Forms            the answers of the calls by value, as a proof by hand takes them
---   Numbers          parameters that are numbers, in a proof by hand
---   LentBody         the body of a call with its tally lent
---   LentTally        such a call, over the call by value
 pub mod Marked
 pub mod Known
 pub mod CallFaults
@@ -31,7 +27,3 @@ pub mod CallerPromises
 pub mod GraphCalls
 pub mod StockCalls
 pub mod BudgetCalls
-pub mod Forms
-pub mod Numbers
-pub mod LentBody
-pub mod LentTally
