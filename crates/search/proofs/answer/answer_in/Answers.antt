@@ -8,34 +8,34 @@ use Rattle.search.proofs.ClassTables.{no_path}
 use Rattle.search.proofs.Answers.{path_explored, sought_none, none_reached}
 use borrow.Author.Rules.{rules}
 use Rattle.search.proofs.answer.answer_in.Goals as goal
-use Rattle.search.proofs.answer.answer_in.Goals.{In-NoPath, In-NoPath-1}
+use Rattle.search.proofs.answer.answer_in.Goals.{In-NoPath}
 
 none : (c : In-NoPath) →
     let a = c.args in
-    let o = c.find_path-answer.last.1.1.1 in
-    PathSought (arcs (length a.base.now) a.source a.tails.now a.heads.now) NoPath a.path.now o.1.1.1.1.1.0
-    (labels o.0 o.1.0 o.1.1.0) o.1.1.1.0
-none c = sought_none _ _ _ _ _ c.enum_told-1.given.1 c.find_path-answer.ensures
+    let o = c.find_path-answer.new in
+    PathSought (arcs (length a.base.now) a.source a.tails.now a.heads.now) NoPath a.path.now o.path
+    (labels o.birth o.via o.base) o.mark
+none c = sought_none _ _ _ _ _ c.in-NoPath.is c.find_path-answer.ensures
 
 pub find_path-answer-requires : goal.find_path-answer-requires
-find_path-answer-requires c = (search rules, (search rules, search rules))
+find_path-answer-requires c = record { arc_table = search rules; blank = search rules; base_in_bounds = search rules }
 
 pub returns-in_default : goal.returns-in_default
-returns-in_default c = path_explored _ _ _ _ _ c.enum_told-in_default-1.given.1 c.find_path-answer.ensures _ _
+returns-in_default c = path_explored _ _ _ _ _ c.in_default.is c.find_path-answer.ensures _ _
 
 pub tell_reached-requires : goal.tell_reached-requires
 tell_reached-requires c =
-    omega (arith, c.requires.class_len.0.1, (none (goal.at.tell_reached-requires c).In-NoPath-1).1.search.state.births_long)
+    omega (arith, c.requires.class_len.1, (none (goal.at.tell_reached-requires c).In-NoPath).1.search.state.births_long)
 
 pub fill_classes-requires : goal.fill_classes-requires
 fill_classes-requires c =
     let N = none (goal.at.fill_classes-requires c).In-NoPath in
-    ((_, (_, _, N.1)), rw N.1.search.state.births_long (N.2, c.requires.class_len.0.0 c.if1.true))
+    record { some_tails = (_, (_, _, N.1)); clear = rw N.1.search.state.births_long (N.2, c.requires.class_len.0 c.if-class-gt0.true) }
 
 pub returns-then-class-gt0 : goal.returns-then-class-gt0
 returns-then-class-gt0 c =
     let N = none (goal.at.returns-then-class-gt0 c).In-NoPath in
-    (no_path N.1, N.0, (λ l. c.fill_classes.ensures _ _ _ N.1), none_reached N.1 c.tell-reached.ensures)
+    (no_path N.1, N.0, (λ l. c.fill_classes.ensures _ _ _ N.1), none_reached N.1 c.tell_reached.ensures)
 
 pub returns-else-class-gt0 : goal.returns-else-class-gt0
 returns-else-class-gt0 c =

@@ -23,7 +23,14 @@ slice_bounds-answer_in-end-5 c = sym (length-take-le _ _ (search rules))
 pub answer_in-requires : goal.answer_in-requires
 answer_in-requires c =
     let pre = c.requires in
-    rw (front_long c.args.pairs 128 pre.0.pairs_few) (pre.0, (fronts_blank c.args.pairs pre.0.pairs_few, pre.1))
+    let few = pre.arc_table.pairs_few in
+    let e = front_long c.args.pairs 128 few in
+    record {
+      arc_table = rw e pre.arc_table;
+      blank = rw e (fronts_blank c.args.pairs few);
+      class_len = rw e pre.class_len;
+      base_in_bounds = rw e pre.pairs_in_bounds;
+    }
 
 pub returns : goal.returns
 returns c = rw (front_long _ 128 c.requires.arc_table.pairs_few) at c.answer_in.ensures

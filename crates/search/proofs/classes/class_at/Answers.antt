@@ -21,7 +21,7 @@ in_x c C = in_bud C c.requires.v_in_bounds c.if-birth-v-eq0.false (rw c.mate_of-
 root_in : (c : After-root_of-t) → c.root_of-t.result < length c.args.number.now
 root_in c =
     let S = c.requires.some_tails in
-    omega (arith, (c.root_of-t.ensures S.0 S.1.0 S.1.1 (in_x c.before S.1.2)).is_node, S.1.2.numbers_long)
+    omega (arith, (c.root_of-t.ensures S.0 S.1.0 S.1.1 (in_bud S.1.2 c.requires.v_in_bounds c.if-birth-v-eq0.false (rw c.mate_of-m.ensures at c.if-birth-m-eq0-2.false))).is_node, S.1.2.numbers_long)
 
 pub offset_bounds-birth-m : goal.offset_bounds-birth-m
 offset_bounds-birth-m c = let R = reads (goal.at.offset_bounds-birth-m c).After-mate_of-m in omega arith

@@ -18,7 +18,8 @@ pub loop-v-init : goal.loop-v-init
 loop-v-init c hs n s B = let pre = c.requires in classing_start B pre.clear.0 pre.clear.1
 
 pub class_at-next-requires : goal.class_at-next-requires
-class_at-next-requires c = (classing (goal.at.class_at-next-requires c).At-loop-v, c.loop-v-test.true)
+class_at-next-requires c =
+    record { some_tails = classing (goal.at.class_at-next-requires c).At-loop-v; v_in_bounds = c.loop-v-test.true }
 
 pub loop-v-preserved : goal.loop-v-preserved
 loop-v-preserved c hs n s B = c.class_at-next.ensures hs n s (c.loop-v.invariant hs n s B)

@@ -9,7 +9,7 @@ use Rattle.search.specs.Queue.{Looking}
 use Rattle.search.proofs.States.{arc_bounds, arc_within, head_within}
 use Rattle.search.proofs.Looks.{LookReads, look_reads, looked_old, new_room, looked_new, looked_settled, births_clear, bridging, bud_queue, looked_bud}
 use Rattle.search.proofs.queue.look.Goals as goal
-use Rattle.search.proofs.queue.look.Goals.{After-mate_of-m, After-slice_known-5-1, Else-birth-y-ne0, Else-is_settled}
+use Rattle.search.proofs.queue.look.Goals.{After-mate_of-m, Else-birth-y-ne0, Else-is_settled}
 
 reads : (c : After-mate_of-m) → let a = c.args in
     LookReads a.heads.now a.birth.now a.queue.now a.p.clock a.i c.wide-y.result c.mate_of-m.result
@@ -17,14 +17,14 @@ reads c = look_reads c.requires.2 c.wide-y.ensures.0 c.mate_of-m.ensures
 
 room : (c : Else-birth-y-ne0) → let a = c.args in a.p.count < length a.queue.now
 room c =
-    new_room c.requires.2 (reads c.before.before.before.before) c.if-birth-m-eq0.true c.if-birth-y-ne0.false
+    new_room c.requires.2 (look_reads c.requires.2 c.wide-y.ensures.0 c.mate_of-m.ensures) c.if-birth-m-eq0.true c.if-birth-y-ne0.false
 
 bridge : (c : Else-is_settled) {n s : ℕ} →
     let a = c.args in
     let T = arcs n s a.tails.now a.heads.now in
     let L = labels a.birth.now a.via.now a.base.now in
     Looking T L a.p.clock a.i a.mark.now a.queue.now a.p.count → Bridging T L a.p.clock a.i
-bridge c A = bridging A (reads c.before.before.before.before) c.if-birth-m-eq0.false (sym c.is_settled.ensures ∙ c.if-is_settled.false)
+bridge c A = bridging A (look_reads A c.wide-y.ensures.0 c.mate_of-m.ensures) c.if-birth-m-eq0.false (sym c.is_settled.ensures ∙ c.if-is_settled.false)
 
 pub bounds-heads-i : goal.bounds-heads-i
 bounds-heads-i c = let A = c.requires.2.leaving in (arc_bounds A.held A.is_arc).in_heads
@@ -71,19 +71,22 @@ is_settled-requires c = let A = c.requires.2.leaving in arc_within A.held A.is_a
 
 pub returns-then-is_settled : goal.returns-then-is_settled
 returns-then-is_settled c n s A =
-    looked_settled A (reads (goal.at.returns-then-is_settled c).After-slice_known-5-1) c.if1.false (sym c.is_settled.ensures ∙ c.if-is_settled.true)
+    looked_settled A (reads (goal.at.returns-then-is_settled c).After-mate_of-m) c.if-birth-m-eq0.false (sym c.is_settled.ensures ∙ c.if-is_settled.true)
 
 pub bud_step-requires : goal.bud_step-requires
 bud_step-requires c =
-    let pre = c.requires in ((pre.0, pre.1, bridge (goal.at.bud_step-requires c).Else-is_settled pre.2), births_clear pre.2)
+    let pre = c.requires in
+    record { some_graph = (pre.0, pre.1, bridge (goal.at.bud_step-requires c).Else-is_settled pre.2); clear = births_clear pre.2 }
 
 pub enqueue-more-requires : goal.enqueue-more-requires
 enqueue-more-requires c =
-    let pre = c.requires in bud_queue pre.2 (c.bud-step.ensures.0 pre.0 pre.1 (bridge (goal.at.enqueue-more-requires c).Else-is_settled pre.2))
+    let pre = c.requires in
+    let Q = bud_queue pre.2 (c.bud_step.ensures.every_graph pre.0 pre.1 (bridge (goal.at.enqueue-more-requires c).Else-is_settled pre.2)) in
+    record { queue_len = Q.0; queued = Q.1 }
 
 pub overflow_add-result-2 : goal.overflow_add-result-2
 overflow_add-result-2 c = omega (arith, (reads (goal.at.overflow_add-result-2 c).After-mate_of-m).clock_few)
 
 pub returns : goal.returns
 returns c n s A =
-    looked_bud A (c.bud-step.ensures.0 n s (bridge (goal.at.returns c).Else-is_settled A)) c.bud-step.ensures.1 c.enqueue-more.ensures
+    looked_bud A (c.bud_step.ensures.every_graph n s (bridge (goal.at.returns c).Else-is_settled A)) c.bud_step.ensures.clear_2 c.enqueue-more.ensures

@@ -10,7 +10,7 @@ use borrow.Author.Rules.{rules}
 use Rattle.search.proofs.queue.search.Goals as goal
 use Rattle.search.proofs.queue.search.Goals.{After-mate_of-goal, At-loop-birth}
 
-long : (c : After-mate_of-goal) → length c.start.new.1.1.1.1.0 ≡ length c.args.base.now
+long : (c : After-mate_of-goal) → length c.start.new.base ≡ length c.args.base.now
 long c = search rules
 
 goal_in : (c : At-loop-birth) → c.mate_of-goal.result < length c.loop-birth.birth
@@ -37,7 +37,7 @@ returns-then-taken-p c =
 pub scan-p-requires : goal.scan-p-requires
 scan-p-requires c =
     let S = c.loop-birth.invariant.0 in
-    ((_, _, S), omega (arith, S.taken, c.if-taken-p.false))
+    record { some_graph = (_, _, S); taken_lt_count = omega (arith, S.taken, c.if-taken-p.false) }
 
 pub loop-birth-preserved : goal.loop-birth-preserved
 loop-birth-preserved c =

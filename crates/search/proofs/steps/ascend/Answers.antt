@@ -3,32 +3,29 @@ use Prim.Native.Nat.{◌+◌}
 use native.Mathlib.Omega.{arith}
 use lib.ListN.{get_or}
 use Rattle.skew.proofs.Mates.{mate_is, mate_half}
-use Rattle.search.specs.Tables.{Labels, labels}
+use Rattle.search.specs.Tables.{labels}
 use Rattle.search.specs.Queue.{ArcWithin}
 use Rattle.search.proofs.States.{arc_within}
 use Rattle.search.proofs.Ascents.{Ascending, ascending_start, mates, turned, standing, Rising, rising, ascended}
 use Rattle.search.proofs.steps.ascend.Goals as goal
 use Rattle.search.proofs.steps.ascend.Goals.{At-loop-p, Else-birth_p-birth_q, Start, Then-birth_p-birth_q}
 
-abbrev lent : Start → Labels
-lent c = labels c.args.birth.now c.args.via.now c.args.base.now
-
-within : (c : Start) → ArcWithin c.args.tails.now c.args.heads.now (lent c) c.args.i
+within : (c : Start) → let a = c.args in ArcWithin a.tails.now a.heads.now (labels a.birth.now a.via.now a.base.now) a.i
 within c = let l = c.requires.some_graph.2.1.joining.leaving in arc_within l.held l.is_arc
 
 -- the ends change places; the end at q goes up; the end at p
 from_mate : (c : At-loop-p) → let a = c.args in
-    Ascending a.tails.now a.heads.now (lent c.before.before.before.before.before.before.before.before.before.before.before.before.before.before.before) a.i c.mate_of-j.result c.loop-p.via c.loop-p.mark c.loop-p.q c.loop-p.p
+    Ascending a.tails.now a.heads.now (labels a.birth.now a.via.now a.base.now) a.i c.mate_of-j.result c.loop-p.via c.loop-p.mark c.loop-p.q c.loop-p.p
 from_mate c = turned c.loop-p.invariant c.mate_of-j.ensures
 
 up_q : (c : Then-birth_p-birth_q) → let a = c.args in
-    Rising a.tails.now a.heads.now (lent c.before.before.before.before.before.before.before.before.before.before.before.before.before.before.before.before.before.before.before) a.i a.i c.loop-p.via c.loop-p.mark c.loop-p.p c.loop-p.q
+    Rising a.tails.now a.heads.now (labels a.birth.now a.via.now a.base.now) a.i a.i c.loop-p.via c.loop-p.mark c.loop-p.p c.loop-p.q
 up_q c = rising c.loop-p.invariant c.loop-p-test.true c.if-birth_p-birth_q.true
 
 up_p : (c : Else-birth_p-birth_q) → let a = c.args in
-    Rising a.tails.now a.heads.now (lent c.before.before.before.before.before.before.before.before.before.before.before.before.before.before.before.before.before.before.before) a.i c.mate_of-j.result c.loop-p.via c.loop-p.mark c.loop-p.q c.loop-p.p
+    Rising a.tails.now a.heads.now (labels a.birth.now a.via.now a.base.now) a.i c.mate_of-j.result c.loop-p.via c.loop-p.mark c.loop-p.q c.loop-p.p
 up_p c =
-    rising (from_mate c.before.before.before.before) (λ x. c.loop-p-test.true (sym x)) (omega (arith, c.if-birth_p-birth_q.false))
+    rising (turned c.loop-p.invariant c.mate_of-j.ensures) (λ x. c.loop-p-test.true (sym x)) (omega (arith, c.if-birth_p-birth_q.false))
 
 pub mate_of-j-requires : goal.mate_of-j-requires
 mate_of-j-requires c = (within (goal.at.mate_of-j-requires c).Start).small
