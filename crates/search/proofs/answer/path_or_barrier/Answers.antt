@@ -4,7 +4,7 @@ use Rattle.search.proofs.Answers.{explored_classes}
 use Rattle.search.proofs.answer.path_or_barrier.Goals as goal
 
 pub explore-requires : goal.explore-requires
-explore-requires c = 
+explore-requires c =
     let pre = c.requires in
     record { arc_table = pre.arc_table; class_len = ((λ l. pre.class_len.0), omega arith); pairs_in_bounds = pre.class_len.1 }
 

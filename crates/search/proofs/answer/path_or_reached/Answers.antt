@@ -4,7 +4,7 @@ use Rattle.search.proofs.Answers.{explored_reached}
 use Rattle.search.proofs.answer.path_or_reached.Goals as goal
 
 pub explore-requires : goal.explore-requires
-explore-requires c = 
+explore-requires c =
     let pre = c.requires in
     record {
       arc_table = pre.arc_table;

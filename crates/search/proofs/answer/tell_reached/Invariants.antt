@@ -1,9 +1,7 @@
 -- The flags of the nodes before v are written.
 use Prim.Native.Nat.{◌≤◌, ◌-◌}
-use native.Mathlib.Omega.{arith}
 use lib.ListN.{length}
 use Rattle.counting.specs.Loops.{Mapped}
-use Rattle.counting.proofs.Loops.{mapped_start, mapped_next, mapped_end}
 use Rattle.search.specs.Answer.{flags_by}
 use Rattle.search.proofs.answer.tell_reached.Given as goal
 

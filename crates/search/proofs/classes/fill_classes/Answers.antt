@@ -1,8 +1,6 @@
-use Prim.Native.Nat.{◌-◌}
 use native.Mathlib.Omega.{arith}
-use lib.ListN.{length}
-use Rattle.search.specs.Tables.{Arcs, labels, SomeTails, EveryTails}
-use Rattle.search.specs.ClassTable.{Exhausted, Classing}
+use Rattle.search.specs.Tables.{Arcs, labels, SomeTails}
+use Rattle.search.specs.ClassTable.{Classing}
 use Rattle.search.proofs.ClassTables.{classing_start, classing_end}
 use Rattle.search.proofs.classes.fill_classes.Goals as goal
 use Rattle.search.proofs.classes.fill_classes.Goals.{At-loop-v}

@@ -1,10 +1,8 @@
 -- The classes of the nodes before v are written.
 use Prim.Native.Nat.{◌-◌}
-use native.Mathlib.Omega.{arith}
 use lib.ListN.{length}
-use Rattle.search.specs.Tables.{Arcs, labels, SomeTails, EveryTails}
+use Rattle.search.specs.Tables.{Arcs, labels, EveryTails}
 use Rattle.search.specs.ClassTable.{Exhausted, Classing}
-use Rattle.search.proofs.ClassTables.{classing_start, classing_end}
 use Rattle.search.proofs.classes.fill_classes.Given as goal
 
 abbrev pub invariant-loop-v : goal.invariant-loop-v

@@ -1,8 +1,6 @@
 use native.Mathlib.Omega.{arith}
-use lib.ListN.{get_or}
-use Rattle.search.specs.Tables.{Arcs, labels, EveryTails}
-use Rattle.search.specs.ClassTable.{InBud}
-use Rattle.search.proofs.Roots.{RootAscent, RootReads, root_ascent_start, root_reads, root_ascent_next, root_ascent_end}
+use Rattle.search.specs.Tables.{labels}
+use Rattle.search.proofs.Roots.{RootReads, root_ascent_start, root_reads, root_ascent_next, root_ascent_end}
 use Rattle.search.proofs.classes.root_of.Goals as goal
 use Rattle.search.proofs.classes.root_of.Goals.{At-loop-v}
 

@@ -1,9 +1,8 @@
 -- From bud to bud towards the root, the birth number falling.
-use native.Mathlib.Omega.{arith}
 use lib.ListN.{get_or}
 use Rattle.search.specs.Tables.{Arcs, labels, EveryTails}
 use Rattle.search.specs.ClassTable.{InBud}
-use Rattle.search.proofs.Roots.{RootAscent, RootReads, root_ascent_start, root_reads, root_ascent_next, root_ascent_end}
+use Rattle.search.proofs.Roots.{RootAscent}
 use Rattle.search.proofs.classes.root_of.Given as goal
 
 abbrev pub invariant-loop-v : goal.invariant-loop-v

@@ -1,8 +1,7 @@
-use Prim.Native.Nat.{◌-◌, ◌<◌}
-use mathlib.Core.Logic.{⊎_elim}
+use Prim.Native.Nat.{◌<◌}
 use native.Mathlib.Omega.{arith}
 use lib.ListN.{length}
-use Rattle.search.proofs.Queues.{Enqueuing, enqueuing_start, enqueuing_room, enqueuing_next, enqueuing_skip, enqueuing_end}
+use Rattle.search.proofs.Queues.{enqueuing_start, enqueuing_room, enqueuing_next, enqueuing_skip, enqueuing_end}
 use Rattle.search.proofs.queue.enqueue.Goals as goal
 use Rattle.search.proofs.queue.enqueue.Goals.{Then-birth-v, then-birth-v, else-birth-v}
 
@@ -25,7 +24,10 @@ pub loop-v-preserved : goal.loop-v-preserved
 loop-v-preserved c =
     let E = c.loop-v.invariant in
     let h = c.loop-v-test.true in
-    elim c.if-birth-v.branch [ | then-birth-v w ↦ ? | else-birth-v w ↦ ? ]
+    elim c.if-birth-v.branch [
+      | then-birth-v w ↦ rw (w.queue-is, w.m-is) (enqueuing_next E h w.if-birth-v.true)
+      | else-birth-v w ↦ rw (w.queue-is, w.m-is) (enqueuing_skip E h w.if-birth-v.false)
+    ]
 
 pub shape_of-queue : goal.shape_of-queue
 shape_of-queue c = c.loop-v.invariant.enqueued.long

@@ -1,9 +1,7 @@
 -- The nodes before v that the event reached stand in the queue.
-use Prim.Native.Nat.{◌-◌, ◌<◌}
-use mathlib.Core.Logic.{⊎_elim}
-use native.Mathlib.Omega.{arith}
+use Prim.Native.Nat.{◌-◌}
 use lib.ListN.{length}
-use Rattle.search.proofs.Queues.{Enqueuing, enqueuing_start, enqueuing_room, enqueuing_next, enqueuing_skip, enqueuing_end}
+use Rattle.search.proofs.Queues.{Enqueuing}
 use Rattle.search.proofs.queue.enqueue.Given as goal
 
 abbrev pub invariant-loop-v : goal.invariant-loop-v

@@ -1,8 +1,6 @@
-use Prim.Native.Nat.{◌-◌}
 use mathlib.Core.Path.{sym, ◌∙◌}
 use native.Mathlib.Omega.{arith}
-use lib.ListN.{length}
-use Rattle.search.proofs.Searches.{Seeking, seeking_start, seeking_next, seeking_end}
+use Rattle.search.proofs.Searches.{seeking_start, seeking_next, seeking_end}
 use Rattle.search.proofs.queue.next_arc.Goals as goal
 
 pub loop-i-init : goal.loop-i-init

@@ -1,9 +1,7 @@
 -- No arc from `from` to i leaves x.
 use Prim.Native.Nat.{◌-◌}
-use mathlib.Core.Path.{sym, ◌∙◌}
-use native.Mathlib.Omega.{arith}
 use lib.ListN.{length}
-use Rattle.search.proofs.Searches.{Seeking, seeking_start, seeking_next, seeking_end}
+use Rattle.search.proofs.Searches.{Seeking}
 use Rattle.search.proofs.queue.next_arc.Given as goal
 
 abbrev pub invariant-loop-i : goal.invariant-loop-i

@@ -1,8 +1,5 @@
-use Prim.Native.Nat.{◌≤◌, ◌-◌}
-use lib.ListN.{length}
 use mathlib.Core.Path.{refl}
 use native.Mathlib.Omega.{arith}
-use Rattle.counting.specs.Loops.{Mapped}
 use Rattle.counting.proofs.Loops.{mapped_start, mapped_next, mapped_end}
 use Rattle.search.specs.Queue.{own_base}
 use Rattle.search.proofs.queue.reset_bases.Goals as goal

@@ -1,9 +1,7 @@
-use Prim.Native.Nat.{◌≤◌, ◌<◌, ◌-◌}
-use mathlib.Core.Path.{◌≡◌}
 use native.Mathlib.Omega.{arith}
-use lib.ListN.{length, get_or}
-use Rattle.search.specs.Tables.{Arcs, arcs, labels, EveryGraph}
-use Rattle.search.specs.Queue.{Searching, Scanned}
+use lib.ListN.{get_or}
+use Rattle.search.specs.Tables.{arcs, labels}
+use Rattle.search.specs.Queue.{Scanned}
 use Rattle.search.proofs.Searches.{scan_begins, scan_at, scan_looks, scan_next, scan_ends}
 use Rattle.search.proofs.queue.scan.Goals as goal
 use Rattle.search.proofs.queue.scan.Goals.{At-loop-i}
@@ -31,11 +29,11 @@ pub loop-i-preserved : goal.loop-i-preserved
 loop-i-preserved c =
     let I = c.loop-i.invariant in
     let N = c.next_arc-i-in-loop-i.ensures in (
-    λ n s S.
-    let Q = I.0 n s S in
-    scan_next (scan_looks Q (c.look-r.ensures n s (scan_at Q c.loop-i-test.true (I.2 c.loop-i-test.true)))) N,
-    N.within,
-    N.found,
+      λ n s S.
+          let Q = I.0 n s S in
+          scan_next (scan_looks Q (c.look-r.ensures n s (scan_at Q c.loop-i-test.true (I.2 c.loop-i-test.true)))) N,
+      N.within,
+      N.found,
     )
 
 pub shape_of-birth : goal.shape_of-birth

@@ -1,11 +1,9 @@
 -- The node's arcs below i are looked at.
 use Prim.Native.Nat.{◌≤◌, ◌<◌, ◌-◌}
 use mathlib.Core.Path.{◌≡◌}
-use native.Mathlib.Omega.{arith}
 use lib.ListN.{length, get_or}
-use Rattle.search.specs.Tables.{Arcs, arcs, labels, EveryGraph}
+use Rattle.search.specs.Tables.{Arcs, labels, EveryGraph}
 use Rattle.search.specs.Queue.{Searching, Scanned}
-use Rattle.search.proofs.Searches.{scan_begins, scan_at, scan_looks, scan_next, scan_ends}
 use Rattle.search.proofs.queue.scan.Given as goal
 
 abbrev pub invariant-loop-i : goal.invariant-loop-i

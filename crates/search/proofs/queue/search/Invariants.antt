@@ -1,13 +1,10 @@
 -- The nodes in the first `taken` places of the queue are scanned.
-use Prim.Native.Nat.{◌*◌, ◌-◌, ◌<◌}
+use Prim.Native.Nat.{◌*◌, ◌-◌}
 use mathlib.Core.Path.{◌≡◌}
-use native.Mathlib.Omega.{arith}
 use lib.ListN.{length}
 use Rattle.skew.specs.Graph.{mate}
 use Rattle.search.specs.Tables.{arcs, labels}
 use Rattle.search.specs.Queue.{Searching}
-use Rattle.search.proofs.Searches.{search_starts, goal_reads, ends_path, ends_closed}
-use borrow.Author.Rules.{rules}
 use Rattle.search.proofs.queue.search.Given as goal
 
 abbrev pub invariant-loop-birth : goal.invariant-loop-birth

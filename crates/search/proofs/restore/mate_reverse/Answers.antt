@@ -1,7 +1,7 @@
 use Prim.Native.Nat.{◌-◌}
 use native.Mathlib.Omega.{arith}
 use lib.ListN.{length-set}
-use Rattle.search.proofs.Reverses.{Reversing, reversing_start, reversing_next, reversing_end, reversing_arc}
+use Rattle.search.proofs.Reverses.{reversing_start, reversing_next, reversing_end, reversing_arc}
 use Rattle.search.proofs.restore.mate_reverse.Goals as goal
 
 pub loop-a-init : goal.loop-a-init

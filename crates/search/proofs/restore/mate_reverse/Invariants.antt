@@ -1,8 +1,6 @@
 -- The places before a and from b on are reversed.
 use Prim.Native.Nat.{◌-◌}
-use native.Mathlib.Omega.{arith}
-use lib.ListN.{length-set}
-use Rattle.search.proofs.Reverses.{Reversing, reversing_start, reversing_next, reversing_end, reversing_arc}
+use Rattle.search.proofs.Reverses.{Reversing}
 use Rattle.search.proofs.restore.mate_reverse.Given as goal
 
 abbrev pub invariant-loop-a : goal.invariant-loop-a

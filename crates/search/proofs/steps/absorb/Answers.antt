@@ -13,7 +13,7 @@ returns c =
     let label = c.label in
     let mate_of = c.mate_of in
     record {
-    marks_are = refl;
-    vias_are = rw (← mate_of.ensures) label.ensures;
-    parent = rw (c.wide-x.ensures.0, label.ensures, mate_of.ensures);
+      marks_are = refl;
+      vias_are = rw (← mate_of.ensures) label.ensures;
+      parent = rw (c.wide-x.ensures.0, label.ensures, mate_of.ensures);
     }

@@ -1,7 +1,5 @@
 use mathlib.Core.Path.{sym}
-use Prim.Native.Nat.{◌+◌}
 use native.Mathlib.Omega.{arith}
-use lib.ListN.{get_or}
 use Rattle.skew.proofs.Mates.{mate_is, mate_half}
 use Rattle.search.specs.Tables.{labels}
 use Rattle.search.specs.Queue.{ArcWithin}

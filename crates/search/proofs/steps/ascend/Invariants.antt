@@ -1,13 +1,8 @@
 -- The end with the later base goes up, so that the sum of the two birth numbers falls.
-use mathlib.Core.Path.{sym}
 use Prim.Native.Nat.{◌+◌}
-use native.Mathlib.Omega.{arith}
 use lib.ListN.{get_or}
-use Rattle.skew.proofs.Mates.{mate_is, mate_half}
-use Rattle.search.specs.Tables.{Labels, labels}
-use Rattle.search.specs.Queue.{ArcWithin}
-use Rattle.search.proofs.States.{arc_within}
-use Rattle.search.proofs.Ascents.{Ascending, ascending_start, mates, turned, standing, Rising, rising, ascended}
+use Rattle.search.specs.Tables.{labels}
+use Rattle.search.proofs.Ascents.{Ascending}
 use Rattle.search.proofs.steps.ascend.Given as goal
 
 abbrev pub invariant-loop-p : goal.invariant-loop-p

@@ -1,12 +1,8 @@
 -- The elements before k are zero.
-use mathlib.Core.Path.{refl}
 use Prim.Native.Nat.{◌≤◌, ◌-◌}
-use native.Mathlib.Omega.{arith}
 use lib.ListN.{length}
 use Rattle.counting.specs.Loops.{Mapped}
-use Rattle.counting.proofs.Loops.{mapped_start, mapped_next, mapped_end}
 use Rattle.search.specs.Steps.{zeroed}
-use borrow.Author.Rules.{rules}
 use Rattle.search.proofs.steps.clear.Given as goal
 
 abbrev pub invariant-loop-k : goal.invariant-loop-k

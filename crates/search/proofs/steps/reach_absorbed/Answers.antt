@@ -1,9 +1,7 @@
-use Prim.Native.Nat.{◌≤◌, ◌-◌, ◌/◌, ◌<◌}
+use Prim.Native.Nat.{◌/◌, ◌<◌}
 use native.Mathlib.Omega.{arith}
 use lib.ListN.{length, get_or}
-use Rattle.counting.specs.Loops.{Mapped}
 use Rattle.counting.proofs.Loops.{mapped_start, mapped_next, mapped_end}
-use Rattle.search.specs.Steps.{births_after}
 use Rattle.search.proofs.steps.reach_absorbed.Goals as goal
 use Rattle.search.proofs.steps.reach_absorbed.Goals.{At-loop-v}
 

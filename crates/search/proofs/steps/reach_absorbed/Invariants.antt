@@ -1,9 +1,7 @@
 -- The births of the nodes before v are mapped.
-use Prim.Native.Nat.{◌≤◌, ◌-◌, ◌/◌, ◌<◌}
-use native.Mathlib.Omega.{arith}
-use lib.ListN.{length, get_or}
+use Prim.Native.Nat.{◌≤◌, ◌-◌}
+use lib.ListN.{length}
 use Rattle.counting.specs.Loops.{Mapped}
-use Rattle.counting.proofs.Loops.{mapped_start, mapped_next, mapped_end}
 use Rattle.search.specs.Steps.{births_after}
 use Rattle.search.proofs.steps.reach_absorbed.Given as goal
 

@@ -1,9 +1,7 @@
-use Prim.Native.Nat.{◌≤◌, ◌-◌, ◌<◌}
+use Prim.Native.Nat.{◌<◌}
 use native.Mathlib.Omega.{arith}
 use lib.ListN.{length, get_or}
-use Rattle.counting.specs.Loops.{Mapped}
 use Rattle.counting.proofs.Loops.{mapped_start, mapped_next, mapped_end, mapped_here}
-use Rattle.search.specs.Steps.{bases_after}
 use Rattle.search.proofs.steps.rebase_absorbed.Goals as goal
 use Rattle.search.proofs.steps.rebase_absorbed.Goals.{At-loop-k}
 

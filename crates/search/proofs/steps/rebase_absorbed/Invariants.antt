@@ -1,9 +1,7 @@
 -- The bases of the mate pairs before k are mapped.
-use Prim.Native.Nat.{◌≤◌, ◌-◌, ◌<◌}
-use native.Mathlib.Omega.{arith}
-use lib.ListN.{length, get_or}
+use Prim.Native.Nat.{◌≤◌, ◌-◌}
+use lib.ListN.{length}
 use Rattle.counting.specs.Loops.{Mapped}
-use Rattle.counting.proofs.Loops.{mapped_start, mapped_next, mapped_end, mapped_here}
 use Rattle.search.specs.Steps.{bases_after}
 use Rattle.search.proofs.steps.rebase_absorbed.Given as goal
 
