@@ -231,7 +231,7 @@ class Turn:
                         while i < len(ts) and ts[i].isspace():
                             i += 1
                         continue
-                    plain = [x for x in body if not x.isspace()]
+                    plain = tokens("".join(body).strip())
                     at = self.place_at(plain, 0) if plain else None
                     if at:
                         _, stop, (kind, callee) = self.fields(at[0], plain, at[1])
