@@ -5,7 +5,7 @@
 use mathlib.Core.Path.{◌≡◌, refl, sym, ◌∙◌}
 use mathlib.Core.Logic.{◌≢◌}
 use mathlib.Core.List.{List}
-use Prim.Native.Nat.{ℕ, suc, ◌-◌, ◌≤◌, ◌<◌}
+use Prim.Native.Nat.{ℕ, zero, suc, ◌-◌, ◌≤◌, ◌<◌}
 use native.Mathlib.Omega.{arith}
 use borrow.Author.Tests.{eq-eqb, ne_eqb}
 use lib.ListN.{get_or}
@@ -26,6 +26,7 @@ look_start b count n = record { within = omega arith; has = refl; under = refl }
 module _ {b : List ℕ} {count n : ℕ} where
   pub look_next : (i : ℕ) → 0 < i → Looking b count n i → get_or b (slot_at (i - 1)) 0 ≢ n → Looking b count n (i - 1)
   unfolding entries_in any pairs_under
+  look_next zero h l e = elim h [ ]
   look_next (suc i) h l e =
       let z : suc i - 1 ≡ i = omega arith in
       let x = ne_eqb (get_or (slot_of i b) 0 0) n (λ q. (rw z at e) (sym (name_at i b) ∙ q)) in
@@ -39,6 +40,7 @@ module _ {b : List ℕ} {count n : ℕ} where
 
   pub found_here : (i : ℕ) → 0 < i → Looking b count n i → get_or b (slot_at (i - 1)) 0 ≡ n → NameFound b count n i
   unfolding entries_in any pairs_under
+  found_here zero h l e = elim h [ ]
   found_here (suc i) h l e =
       let z : suc i - 1 ≡ i = omega arith in
       let x = eq-eqb (get_or (slot_of i b) 0 0) n (name_at i b ∙ (rw z at e)) in
