@@ -5,28 +5,28 @@ ghost use Rattle.io.specs.Counts.{IsPrefixLen};
 
 use formats::limits::{FILE_MOST, ROOM};
 use lanes_print::print_check;
-use libc::STDOUT_FILENO;
+use reading::read_full;
+use std::fs::Files;
+use std::io::Write;
+use std::{fs, io};
 
 // A file that can't be opened counts as empty.
-fn read_file(path: &[u8], file: &mut [u8]) -> usize
+fn read_file<F: Files>(files: &F, path: &str, file: &mut [u8]) -> usize
     ensures { IsPrefixLen result file.new }
 {
-    let opened = os::open_read(path);
-    if opened < 0 {
-        return 0;
+    match fs::open(files, path) {
+        Ok(mut opened) => read_full(&mut opened, file),
+        Err(_) => 0,
     }
-    let size = io::read_full(opened, file);
-    libc::close(opened);
-    size
 }
 
-fn main() {
+fn main(rt: HostRuntime) -> io::Result<()> {
     // one byte more than a file may have, so that a longer file is refused
     let mut graph = [0u8; FILE_MOST + 1];
-    let graph_size = read_file(b"graph.hex", &mut graph);
+    let graph_size = read_file(&rt, "graph.hex", &mut graph);
     let mut cert = [0u8; FILE_MOST + 1];
-    let cert_size = read_file(b"cert.hex", &mut cert);
+    let cert_size = read_file(&rt, "cert.hex", &mut cert);
     let mut out = [0u8; ROOM];
     let printed = print_check(&graph[..graph_size], &cert[..cert_size], &mut out);
-    io::write_all(STDOUT_FILENO, &out[..printed]);
+    rt.stdout().write_all(&out[..printed])
 }

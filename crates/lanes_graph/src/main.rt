@@ -3,13 +3,15 @@
 
 use formats::limits::{FILE_MOST, ROOM};
 use lanes_print::print_graph;
-use libc::{STDIN_FILENO, STDOUT_FILENO};
+use reading::read_full;
+use std::io;
+use std::io::Write;
 
-fn main() {
+fn main(rt: HostRuntime) -> io::Result<()> {
     // one byte more than a file may have, so that a longer file is refused
     let mut file = [0u8; FILE_MOST + 1];
-    let size = io::read_full(STDIN_FILENO, &mut file);
+    let size = read_full(&mut rt.stdin(), &mut file);
     let mut out = [0u8; ROOM];
     let printed = print_graph(&file[..size], &mut out);
-    io::write_all(STDOUT_FILENO, &out[..printed]);
+    rt.stdout().write_all(&out[..printed])
 }
