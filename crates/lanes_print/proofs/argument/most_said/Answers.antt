@@ -1,10 +1,7 @@
 use mathlib.Core.Path.{sym}
-use Prim.Native.Nat.{◌-◌}
 use native.Mathlib.Omega.{arith}
-use lib.ListN.{length}
 use borrow.Author.Tests.{eq-eqb, le-leb, lt-leb}
 use Rattle.counting.proofs.Booleans.{and_both}
-use Rattle.lanes_print.specs.Argument.{Reading}
 use Rattle.lanes_print.proofs.Arguments.{reading_start, reading_step, reading_none, reading_end}
 use Rattle.lanes_print.proofs.argument.most_said.Goals as goal
 
@@ -24,8 +21,8 @@ returns-then-digit-gt57 c =
     let l = c.loop-i in
     sym (reading_none l.invariant c.loop-i-test.true (rw (le-leb 48 _ c.if-digit-lt48.false, lt-leb _ 57 c.if-digit-gt57.true)))
 
-pub with_digit-value-requires : goal.with_digit-value-requires
-with_digit-value-requires c = (c.loop-i.invariant.low, (c.if-digit-lt48.false, c.if-digit-gt57.false))
+pub with_digit-value-requires-clause-value_le_too_many : goal.with_digit-value-requires-clause-value_le_too_many
+with_digit-value-requires-clause-value_le_too_many c = c.loop-i.invariant.low
 
 pub loop-i-smaller : goal.loop-i-smaller
 loop-i-smaller c = let less = c.loop-i-test.true in omega arith
