@@ -1,4 +1,4 @@
-use mathlib.Core.Path.{◌≡◌, refl, ap, sym, ◌∙◌}
+use mathlib.Core.Path.{◌≡◌, ap, sym, ◌∙◌}
 use Prim.Native.Nat.{◌+◌}
 use native.Mathlib.Omega.{arith}
 use lib.ListN.{get_or}
@@ -20,22 +20,13 @@ heads_read : (c : After-mate_of-in-loop-i) →
     (c.wide-in-loop-i-2.result ≡ get_or a.heads.now (i + 1) 0) × (c.mate_of-in-loop-i.result ≡ mate (get_or a.tails.now i 0))
 heads_read c = (c.wide-in-loop-i-2.ensures.0, c.mate_of-in-loop-i.ensures ∙ ap mate c.wide-in-loop-i-3.ensures.0)
 
-pub loop-i-init : goal.loop-i-init
-loop-i-init c = refl
-
 pub returns-then-i-count : goal.returns-then-i-count
 returns-then-i-count c = sym (c.loop-i.invariant ∙ mates_last c.requires _ c.loop-i-test.true c.if-i-count.true)
-
-pub mate_of-requires : goal.mate_of-requires
-mate_of-requires c = omega arith
 
 pub returns-then-wide-mate_of : goal.returns-then-wide-mate_of
 returns-then-wide-mate_of c =
     let t = tails_read (goal.at.returns-then-wide-mate_of c).After-mate_of in
     sym (c.loop-i.invariant ∙ mates_fails_tail c.requires _ (omega arith) (λ e. c.if-wide-mate_of.true (t.0 ∙ e ∙ sym t.1)))
-
-pub mate_of-requires-in-loop-i : goal.mate_of-requires-in-loop-i
-mate_of-requires-in-loop-i c = omega arith
 
 pub returns-then-wide-mate_of-2 : goal.returns-then-wide-mate_of-2
 returns-then-wide-mate_of-2 c =

@@ -1,9 +1,6 @@
-use mathlib.Core.Path.{refl, sym, ◌∙◌}
+use mathlib.Core.Path.{sym, ◌∙◌}
 use Rattle.files.proofs.PairScans.{order_end, order_next, order_fails_name, order_fails_class}
 use Rattle.files.proofs.questions.in_order.Goals as goal
-
-pub loop-i-init : goal.loop-i-init
-loop-i-init c = refl
 
 pub returns-then-nodes-i : goal.returns-then-nodes-i
 returns-then-nodes-i c = sym (c.loop-i.invariant ∙ order_fails_name c.requires _ c.loop-i-test.true c.if-nodes-i.true)

@@ -1,10 +1,7 @@
-use mathlib.Core.Path.{refl, sym, ◌∙◌}
+use mathlib.Core.Path.{sym, ◌∙◌}
 use native.Mathlib.Omega.{arith}
 use Rattle.files.proofs.PairScans.{rise_end, rise_fails_pair, rise_last, rise_next, rise_fails_order}
 use Rattle.files.proofs.questions.pairs_rise.Goals as goal
-
-pub loop-i-init : goal.loop-i-init
-loop-i-init c = refl
 
 pub returns-then-seconds-i : goal.returns-then-seconds-i
 returns-then-seconds-i c = sym (c.loop-i.invariant ∙ rise_fails_pair c.requires _ c.loop-i-test.true c.if-seconds-i.true)

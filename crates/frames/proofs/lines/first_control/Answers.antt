@@ -1,9 +1,6 @@
-use mathlib.Core.Path.{refl, sym, ◌∙◌}
+use mathlib.Core.Path.{sym, ◌∙◌}
 use Rattle.frames.proofs.LinePlaces.{control_next, control_here, control_over}
 use Rattle.frames.proofs.lines.first_control.Goals as goal
-
-pub loop-i-init : goal.loop-i-init
-loop-i-init c = refl
 
 pub returns-then-f-i-lt32 : goal.returns-then-f-i-lt32
 returns-then-f-i-lt32 c = sym (c.loop-i.invariant ∙ control_here _ c.loop-i.i c.loop-i-test.true c.if-f-i-lt32.true)

@@ -26,41 +26,17 @@ next_line c e =
 pub loop-at-init : goal.loop-at-init
 loop-at-init c = left_start _ _
 
-pub line_at-l-requires : goal.line_at-l-requires
-line_at-l-requires c = omega arith
-
-pub end_fault-requires : goal.end_fault-requires
-end_fault-requires c = (omega arith, omega arith)
-
 pub returns-then-next-g : goal.returns-then-next-g
 returns-then-next-g c = left_end c.loop-at.invariant c.line_at-l.ensures c.if-next-g.true c.end_fault.ensures c.told.ensures
-
-pub is_frame-requires : goal.is_frame-requires
-is_frame-requires c = (omega arith, omega arith)
-
-pub is_frame-requires-then-not-is_frame : goal.is_frame-requires-then-not-is_frame
-is_frame-requires-then-not-is_frame c = (omega arith, omega arith)
 
 pub returns-then-not-is_frame-2 : goal.returns-then-not-is_frame-2
 returns-then-not-is_frame-2 c =
     left_fails c.loop-at.invariant c.line_at-l.ensures (omega arith) (sym c.is_frame.ensures ∙ c.if-not-is_frame.true)
     (sym c.is_frame-then-not-is_frame.ensures ∙ c.if-not-is_frame-2.true) c.told-then-not-is_frame-2.ensures
 
-pub overflow_add-count : goal.overflow_add-count
-overflow_add-count c = omega arith
-
-pub overflow_add-firsts : goal.overflow_add-firsts
-overflow_add-firsts c = omega arith
-
-pub loop-at-smaller-then-kind-first : goal.loop-at-smaller-then-kind-first
-loop-at-smaller-then-kind-first c = omega arith
-
 pub loop-at-preserved-then-kind-first : goal.loop-at-preserved-then-kind-first
 loop-at-preserved-then-kind-first c =
     next_line (goal.at.loop-at-preserved-then-kind-first c).Joined-not-is_frame (sym (pick_true _ _ (eq-eqb _ _ c.if-kind-first.true)))
-
-pub loop-at-smaller : goal.loop-at-smaller
-loop-at-smaller c = omega arith
 
 pub loop-at-preserved : goal.loop-at-preserved
 loop-at-preserved c =

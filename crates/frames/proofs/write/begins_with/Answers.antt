@@ -1,13 +1,10 @@
-use mathlib.Core.Path.{refl, sym, ◌∙◌}
+use mathlib.Core.Path.{sym, ◌∙◌}
 use native.Mathlib.Omega.{arith}
 use Rattle.frames.proofs.Begins.{begins_short, begins_next, begins_fails, begins_end}
 use Rattle.frames.proofs.write.begins_with.Goals as goal
 
 pub returns-then-f-text : goal.returns-then-f-text
 returns-then-f-text c = sym (begins_short _ _ c.if-f-text.true)
-
-pub loop-i-init : goal.loop-i-init
-loop-i-init c = refl
 
 pub returns-then-f-i : goal.returns-then-f-i
 returns-then-f-i c = sym (c.loop-i.invariant ∙ begins_fails _ _ c.loop-i.i (omega arith) (omega arith) c.if-f-i.true)

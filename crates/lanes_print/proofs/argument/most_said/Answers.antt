@@ -21,9 +21,6 @@ returns-then-digit-gt57 c =
     let l = c.loop-i in
     sym (reading_none l.invariant c.loop-i-test.true (rw (le-leb 48 _ c.if-digit-lt48.false, lt-leb _ 57 c.if-digit-gt57.true)))
 
-pub with_digit-value-requires-clause-value_le_too_many : goal.with_digit-value-requires-clause-value_le_too_many
-with_digit-value-requires-clause-value_le_too_many c = c.loop-i.invariant.low
-
 pub loop-i-smaller : goal.loop-i-smaller
 loop-i-smaller c = let less = c.loop-i-test.true in omega arith
 

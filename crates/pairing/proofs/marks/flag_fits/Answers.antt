@@ -1,6 +1,6 @@
 use Prim.Native.Nat.{◌<◌}
 use native.Mathlib.Omega.{arith}
-use lib.ListN.{length, get_or, length-set}
+use lib.ListN.{length, get_or}
 use Rattle.pairing.proofs.CameraMarks.{flags_start, flags_next, flags_end}
 use Rattle.pairing.proofs.marks.flag_fits.Goals as goal
 use Rattle.pairing.proofs.marks.flag_fits.Goals.{In-loop-i}
@@ -17,18 +17,8 @@ fit c =
 pub loop-i-init : goal.loop-i-init
 loop-i-init c = (omega arith, flags_start)
 
-pub overflow_cast-flags : goal.overflow_cast-flags
-overflow_cast-flags c = omega (arith, c.shared_slice_known-1.given c.loop-i.i)
-
 pub bounds-flags-firsts : goal.bounds-flags-firsts
 bounds-flags-firsts c = (fit (goal.at.bounds-flags-firsts c).In-loop-i).0
-
-pub overflow_cast-flags-in-loop-i : goal.overflow_cast-flags-in-loop-i
-overflow_cast-flags-in-loop-i c = omega (arith, c.shared_slice_known-in-loop-i-1.given c.loop-i.i)
-
-pub bounds-flags-seconds : goal.bounds-flags-seconds
-bounds-flags-seconds c =
-    omega (arith, (fit (goal.at.bounds-flags-seconds c).In-loop-i).1, length-set c.loop-i.flags (get_or c.args.firsts.now c.loop-i.i 0) 1)
 
 pub loop-i-preserved : goal.loop-i-preserved
 loop-i-preserved c = (omega arith, flags_next c.requires c.loop-i.invariant.1 (omega arith))

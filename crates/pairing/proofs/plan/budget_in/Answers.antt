@@ -9,9 +9,6 @@ use Rattle.pairing.proofs.plan.budget_in.Goals as goal
 pub slice_bounds-search_from_lit-end : goal.slice_bounds-search_from_lit-end
 slice_bounds-search_from_lit-end c = simp length-take (omega arith)
 
-pub search_from_lit-ending-requires-clause-stock_table : goal.search_from_lit-ending-requires-clause-stock_table
-search_from_lit-ending-requires-clause-stock_table c = c.requires.stock_table
-
 pub search_from_lit-ending-requires-clause-reached_len : goal.search_from_lit-ending-requires-clause-reached_len
 search_from_lit-ending-requires-clause-reached_len c = reached_front (length c.args.row.now) c.requires.stock_table.cameras_few
 

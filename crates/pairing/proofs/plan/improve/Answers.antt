@@ -13,9 +13,6 @@ found c =
     let few = c.requires.paired_fits.table.cameras_few in
     path_found _ _ _ (omega arith) c.in-Path.is c.path_or_reached-answer.ensures
 
-pub fill_table-arcs-requires-clause-paired_fits : goal.fill_table-arcs-requires-clause-paired_fits
-fill_table-arcs-requires-clause-paired_fits c = c.requires.paired_fits
-
 pub slice_bounds-path_or_reached-end : goal.slice_bounds-path_or_reached-end
 slice_bounds-path_or_reached-end c = simp length-take (omega arith)
 

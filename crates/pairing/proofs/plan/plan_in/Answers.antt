@@ -6,15 +6,6 @@ use Rattle.pairing.proofs.plan.plan_in.Goals as goal
 pub marks_of-requires-clause-fit_table : goal.marks_of-requires-clause-fit_table
 marks_of-requires-clause-fit_table c = rw c.requires.marks_len (stock_fits c.requires.stock_table)
 
-pub pairs_of-requires-clause-row_len_bound : goal.pairs_of-requires-clause-row_len_bound
-pairs_of-requires-clause-row_len_bound c = omega (arith, c.search_from_lit.auto.row, c.requires.stock_table.cameras_few)
-
-pub pairs_of-requires-clause-row_in_bounds : goal.pairs_of-requires-clause-row_in_bounds
-pairs_of-requires-clause-row_in_bounds c = omega (arith, c.search_from_lit.auto.row, c.requires.row_in_bounds.0)
-
-pub pairs_of-requires-clause-row_in_bounds_2 : goal.pairs_of-requires-clause-row_in_bounds_2
-pairs_of-requires-clause-row_in_bounds_2 c = omega (arith, c.search_from_lit.auto.row, c.requires.row_in_bounds.1)
-
 pub returns : goal.returns
 returns c =
     let enough = enough_searches _ c.requires.stock_table.well_formed c.requires.stock_table.cameras_few in

@@ -9,9 +9,6 @@ loop-searches-init c = (refl, omega arith, improving_start c.requires.paired_fit
 pub improve-requires-clause-paired_fits : goal.improve-requires-clause-paired_fits
 improve-requires-clause-paired_fits c = let I = c.loop-searches.invariant.2 in record { table = rw I.long c.requires.paired_fits.table; matching = I.matching }
 
-pub improve-requires-clause-reached_len : goal.improve-requires-clause-reached_len
-improve-requires-clause-reached_len c = omega (arith, c.loop-searches.invariant.0, c.loop-searches.invariant.2.long, c.requires.reached_len)
-
 pub returns-then-not-improve : goal.returns-then-not-improve
 returns-then-not-improve c =
     ran_none c.loop-searches.invariant.2 c.improve.ensures c.if-not-improve.true c.loop-searches-test.true refl refl

@@ -17,14 +17,8 @@ pair c =
 pub loop-i-init : goal.loop-i-init
 loop-i-init c = (omega arith, lit_start c.requires.pair_table c.requires.row_value)
 
-pub overflow_cast-row : goal.overflow_cast-row
-overflow_cast-row c = omega (arith, c.shared_slice_known-in-loop-i-1.given (c.loop-i.i - 1))
-
 pub bounds-row-v : goal.bounds-row-v
 bounds-row-v c = (pair (goal.at.bounds-row-v c).In-loop-i).1
-
-pub overflow_cast-row-in-loop-i : goal.overflow_cast-row-in-loop-i
-overflow_cast-row-in-loop-i c = omega (arith, c.shared_slice_known-1.given (c.loop-i.i - 1))
 
 pub bounds-row-u : goal.bounds-row-u
 bounds-row-u c =

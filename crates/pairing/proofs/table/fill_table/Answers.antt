@@ -3,20 +3,8 @@ use native.Mathlib.Omega.{arith}
 use Rattle.pairing.proofs.DoubledTables.{row_low, cameras_size, doubled}
 use Rattle.pairing.proofs.table.fill_table.Goals as goal
 
-pub put_cameras-start-requires-clause-row_len_bound : goal.put_cameras-start-requires-clause-row_len_bound
-put_cameras-start-requires-clause-row_len_bound c = c.requires.paired_fits.table.cameras_few
-
 pub put_cameras-start-requires-clause-by_index : goal.put_cameras-start-requires-clause-by_index
 put_cameras-start-requires-clause-by_index c = row_low c.requires.paired_fits
-
-pub put_cameras-start-requires-clause-row_in_bounds : goal.put_cameras-start-requires-clause-row_in_bounds
-put_cameras-start-requires-clause-row_in_bounds c = omega (arith, c.requires.arcs_most_in_bounds, c.requires.paired_fits.table.cameras_few)
-
-pub put_cameras-start-requires-clause-row_in_bounds_2 : goal.put_cameras-start-requires-clause-row_in_bounds_2
-put_cameras-start-requires-clause-row_in_bounds_2 c = omega (arith, c.requires.arcs_most_in_bounds_2, c.requires.paired_fits.table.cameras_few)
-
-pub put_fits-requires-clause-fit_table : goal.put_fits-requires-clause-fit_table
-put_fits-requires-clause-fit_table c = c.requires.paired_fits.table
 
 pub put_fits-requires-clause-firsts_in_bounds : goal.put_fits-requires-clause-firsts_in_bounds
 put_fits-requires-clause-firsts_in_bounds c =

@@ -6,17 +6,8 @@ use Rattle.pairing.proofs.table.put_cameras.Goals as goal
 pub loop-k-init : goal.loop-k-init
 loop-k-init c = (omega arith, writing_start)
 
-pub bounds-row-k : goal.bounds-row-k
-bounds-row-k c = omega arith
-
 pub put_camera-at-requires-clause-w_lt_n : goal.put_camera-at-requires-clause-w_lt_n
 put_camera-at-requires-clause-w_lt_n c = c.requires.by_index c.loop-k.k (omega arith)
-
-pub put_camera-at-requires-clause-at_in_bounds : goal.put_camera-at-requires-clause-at_in_bounds
-put_camera-at-requires-clause-at_in_bounds c = omega (arith, c.requires.row_in_bounds)
-
-pub put_camera-at-requires-clause-at_in_bounds_2 : goal.put_camera-at-requires-clause-at_in_bounds_2
-put_camera-at-requires-clause-at_in_bounds_2 c = omega (arith, c.requires.row_in_bounds_2)
 
 pub loop-k-preserved : goal.loop-k-preserved
 loop-k-preserved c = (omega arith, cameras_next c.args.row.now c.loop-k.invariant.1 (omega arith) c.put_camera-at.ensures)

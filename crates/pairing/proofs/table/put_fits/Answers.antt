@@ -19,9 +19,6 @@ fit c =
 pub loop-i-init : goal.loop-i-init
 loop-i-init c = (omega arith, writing_start)
 
-pub overflow_cast-u : goal.overflow_cast-u
-overflow_cast-u c = omega (arith, fit (goal.at.overflow_cast-u c).In-loop-i, c.requires.fit_table.cameras_few)
-
 pub bounds-row-u : goal.bounds-row-u
 bounds-row-u c = omega (arith, fit (goal.at.bounds-row-u c).In-loop-i)
 
@@ -30,12 +27,6 @@ put_fit-at-requires-clause-u_lt_cameras_most c = let f = fit (goal.at.put_fit-at
 
 pub put_fit-at-requires-clause-v_lt_cameras_most : goal.put_fit-at-requires-clause-v_lt_cameras_most
 put_fit-at-requires-clause-v_lt_cameras_most c = let f = fit (goal.at.put_fit-at-requires-clause-v_lt_cameras_most c).In-loop-i in omega (arith, c.requires.fit_table.cameras_few)
-
-pub put_fit-at-requires-clause-at_in_bounds : goal.put_fit-at-requires-clause-at_in_bounds
-put_fit-at-requires-clause-at_in_bounds c = omega (arith, c.requires.firsts_in_bounds)
-
-pub put_fit-at-requires-clause-at_in_bounds_2 : goal.put_fit-at-requires-clause-at_in_bounds_2
-put_fit-at-requires-clause-at_in_bounds_2 c = omega (arith, c.requires.firsts_in_bounds_2)
 
 pub loop-i-preserved : goal.loop-i-preserved
 loop-i-preserved c =

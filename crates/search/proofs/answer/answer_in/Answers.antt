@@ -23,10 +23,6 @@ find_path-answer-requires c = record { arc_table = search rules; blank = search 
 pub returns-in_default : goal.returns-in_default
 returns-in_default c = path_explored _ _ _ _ _ c.in_default.is c.find_path-answer.ensures _ _
 
-pub tell_reached-requires : goal.tell_reached-requires
-tell_reached-requires c =
-    omega (arith, c.requires.class_len.1, (none (goal.at.tell_reached-requires c).In-NoPath).1.search.state.births_long)
-
 pub fill_classes-requires : goal.fill_classes-requires
 fill_classes-requires c =
     let N = none (goal.at.fill_classes-requires c).In-NoPath in

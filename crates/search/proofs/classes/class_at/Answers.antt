@@ -65,9 +65,6 @@ returns-then-c-eq0 c hs n s C =
     let X = in_x (goal.at.returns-then-c-eq0 c).Else-birth-m-eq0-2 C in
     rw c.narrow.ensures (class_new C c.requires.v_in_bounds X (c.root_of-t.ensures hs n s X) c.if-c-eq0.true)
 
-pub narrow-requires-2 : goal.narrow-requires-2
-narrow-requires-2 c = omega (arith, (reads (goal.at.narrow-requires-2 c).After-mate_of-m).numbers_few c.root_of-t.result)
-
 pub returns : goal.returns
 returns c hs n s C =
     let X = in_x (goal.at.returns c).Else-birth-m-eq0-2 C in

@@ -1,6 +1,5 @@
 -- The three ways to be settled, and the two not to be.
 use Prim.Native.Nat.{◌/◌, ◌<◌}
-use native.Mathlib.Omega.{arith}
 use lib.ListN.{length, get_or}
 use borrow.Author.Tests.{eq-eqb, ne_eqb}
 use Rattle.search.proofs.States.{is_reached, not_reached}
@@ -19,17 +18,11 @@ returns-then-birth-y-eq0 c = rw (← c.wide-x.ensures.0, ← c.wide-y.ensures.0,
 pub returns-then-p-q : goal.returns-then-p-q
 returns-then-p-q c = rw (← c.wide-x.ensures.0, ← c.wide-y.ensures.0, eq-eqb _ _ c.if-p-q.true, is_reached _ c.if-birth-y-eq0.false)
 
-pub offset_bounds-via-q : goal.offset_bounds-via-q
-offset_bounds-via-q c = omega (arith, q_low (goal.at.offset_bounds-via-q c).After-wide-y)
-
 pub bounds-via-q : goal.bounds-via-q
 bounds-via-q c = q_low (goal.at.bounds-via-q c).After-wide-y
 
 pub returns-then-via-q : goal.returns-then-via-q
 returns-then-via-q c = rw (← c.wide-x.ensures.0, ← c.wide-y.ensures.0, ne_eqb _ _ c.if-p-q.false, eq-eqb _ _ c.if-via-q.true)
-
-pub offset_bounds-via-p : goal.offset_bounds-via-p
-offset_bounds-via-p c = omega (arith, p_low (goal.at.offset_bounds-via-p c).After-wide-y)
 
 pub bounds-via-p : goal.bounds-via-p
 bounds-via-p c = p_low (goal.at.bounds-via-p c).After-wide-y

@@ -35,9 +35,6 @@ offset_bounds-birth-m c = omega (arith, (reads (goal.at.offset_bounds-birth-m c)
 pub bounds-birth-m : goal.bounds-birth-m
 bounds-birth-m c = (reads (goal.at.bounds-birth-m c).After-mate_of-m).mate_in_births
 
-pub offset_bounds-birth-y : goal.offset_bounds-birth-y
-offset_bounds-birth-y c = omega (arith, (reads (goal.at.offset_bounds-birth-y c).After-mate_of-m).head_in_births)
-
 pub bounds-birth-y : goal.bounds-birth-y
 bounds-birth-y c = (reads (goal.at.bounds-birth-y c).After-mate_of-m).head_in_births
 
@@ -49,18 +46,8 @@ returns-then-birth-y-ne0 c n s A =
 pub tree_step-requires : goal.tree_step-requires
 tree_step-requires c = let A = c.requires.2.leaving in head_within A.held A.is_arc
 
-pub offset_bounds-queue-count : goal.offset_bounds-queue-count
-offset_bounds-queue-count c = omega (arith, room (goal.at.offset_bounds-queue-count c).Else-birth-y-ne0)
-
 pub bounds-queue-count : goal.bounds-queue-count
 bounds-queue-count c = room (goal.at.bounds-queue-count c).Else-birth-y-ne0
-
-pub overflow_add-result : goal.overflow_add-result
-overflow_add-result c =
-    omega (arith, room (goal.at.overflow_add-result c).Else-birth-y-ne0, (reads (goal.at.overflow_add-result c).After-mate_of-m).queue_few)
-
-pub overflow_add-result-then-birth-m-eq0 : goal.overflow_add-result-then-birth-m-eq0
-overflow_add-result-then-birth-m-eq0 c = omega (arith, (reads (goal.at.overflow_add-result-then-birth-m-eq0 c).After-mate_of-m).clock_few)
 
 pub returns-then-birth-m-eq0 : goal.returns-then-birth-m-eq0
 returns-then-birth-m-eq0 c n s A =
@@ -83,9 +70,6 @@ enqueue-more-requires c =
     let pre = c.requires in
     let Q = bud_queue pre.2 (c.bud_step.ensures.every_graph pre.0 pre.1 (bridge (goal.at.enqueue-more-requires c).Else-is_settled pre.2)) in
     record { queue_len = Q.0; queued = Q.1 }
-
-pub overflow_add-result-2 : goal.overflow_add-result-2
-overflow_add-result-2 c = omega (arith, (reads (goal.at.overflow_add-result-2 c).After-mate_of-m).clock_few)
 
 pub returns : goal.returns
 returns c n s A =

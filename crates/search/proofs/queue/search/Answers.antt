@@ -17,9 +17,6 @@ pub loop-birth-init : goal.loop-birth-init
 loop-birth-init c =
     (rw (long (goal.at.loop-birth-init c).After-mate_of-goal) (search_starts c.start.ensures c.requires.arc_table c.requires.blank), c.mate_of-goal.ensures)
 
-pub offset_bounds-birth-goal : goal.offset_bounds-birth-goal
-offset_bounds-birth-goal c = omega (arith, goal_in (goal.at.offset_bounds-birth-goal c).At-loop-birth)
-
 pub bounds-birth-goal : goal.bounds-birth-goal
 bounds-birth-goal c = goal_in (goal.at.bounds-birth-goal c).At-loop-birth
 

@@ -1,6 +1,6 @@
 use mathlib.Core.Path.{sym}
 use native.Mathlib.Omega.{arith}
-use Rattle.skew.proofs.Mates.{mate_is, mate_half}
+use Rattle.skew.proofs.Mates.{mate_half}
 use Rattle.search.specs.Tables.{labels}
 use Rattle.search.specs.Queue.{ArcWithin}
 use Rattle.search.proofs.States.{arc_within}
@@ -37,23 +37,13 @@ bounds-heads-i c = (within (goal.at.bounds-heads-i c).Start).in_heads
 pub bounds-base-v : goal.bounds-base-v
 bounds-base-v c = rw c.wide-v.ensures.0 (within (goal.at.bounds-base-v c).Start).tail_in_bases
 
-pub offset_bounds-base-z : goal.offset_bounds-base-z
-offset_bounds-base-z c = omega (arith, c.mate_of-z.ensures, mate_is c.wide.result, c.wide.ensures.1)
-
 pub bounds-base-z : goal.bounds-base-z
 bounds-base-z c =
-    let mate-of2 = c.mate_of-z in
-    let wide2 = c.wide in
-    let W = within (goal.at.bounds-base-z c).Start in
-    rw (mate-of2.ensures, mate_half wide2.result, wide2.ensures.0) W.head_in_bases
+    let W = within (goal.at.bounds-base-z c).Start in rw (c.mate_of-z.ensures, mate_half c.wide.result, c.wide.ensures.0) W.head_in_bases
 
 pub loop-p-init : goal.loop-p-init
 loop-p-init c =
-    let pre = c.requires in
-    let wide = c.wide-v in
-    let wide2 = c.wide in
-    let mate-of2 = c.mate_of-z in
-    rw (wide.ensures.0, mate-of2.ensures, wide2.ensures.0) (ascending_start pre.some_graph pre.clear)
+    rw (c.wide-v.ensures.0, c.mate_of-z.ensures, c.wide.ensures.0) (ascending_start c.requires.some_graph c.requires.clear)
 
 pub offset_bounds-birth-p : goal.offset_bounds-birth-p
 offset_bounds-birth-p c = omega (arith, (standing (from_mate (goal.at.offset_bounds-birth-p c).At-loop-p)).small)
@@ -98,12 +88,6 @@ label-requires c =
 pub shape_of-via : goal.shape_of-via
 shape_of-via c = let P = standing c.loop-p.invariant in omega (arith, P.vias_long, c.label.auto)
 
-pub shape_of-mark : goal.shape_of-mark
-shape_of-mark c = omega (arith, (standing c.loop-p.invariant).marks_long, c.requires.clear.long)
-
 pub returns : goal.returns
 returns c n s k B =
-    let loop = c.loop-p in
-    let label = c.label in
-    let mate-of3 = c.mate_of in
-    rw (label.ensures, mate-of3.ensures) (ascended loop.invariant c.loop-p-test.false n s k B)
+    rw (c.label.ensures, c.mate_of.ensures) (ascended c.loop-p.invariant c.loop-p-test.false n s k B)

@@ -15,9 +15,6 @@ base_marked c l =
 pub loop-v-init : goal.loop-v-init
 loop-v-init c = (omega arith, mapped_start _ _)
 
-pub offset_bounds-mark-b : goal.offset_bounds-mark-b
-offset_bounds-mark-b c = omega (arith, base_marked (goal.at.offset_bounds-mark-b c).At-loop-v c.loop-v-test.true)
-
 pub bounds-mark-b : goal.bounds-mark-b
 bounds-mark-b c = base_marked (goal.at.bounds-mark-b c).At-loop-v c.loop-v-test.true
 

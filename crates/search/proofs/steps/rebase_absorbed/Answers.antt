@@ -13,9 +13,6 @@ base_marked c l = rw (mapped_here c.loop-k.invariant.1) (c.requires c.loop-k.k (
 pub loop-k-init : goal.loop-k-init
 loop-k-init c = (omega arith, mapped_start _ _)
 
-pub offset_bounds-mark-b : goal.offset_bounds-mark-b
-offset_bounds-mark-b c = omega (arith, base_marked (goal.at.offset_bounds-mark-b c).At-loop-k c.loop-k-test.true)
-
 pub bounds-mark-b : goal.bounds-mark-b
 bounds-mark-b c = base_marked (goal.at.bounds-mark-b c).At-loop-k c.loop-k-test.true
 
