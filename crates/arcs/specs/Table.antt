@@ -1,7 +1,7 @@
 -- The arc table that a caller lends: the arcs' tails and heads as lists of bytes, and the graph of it.
 --   table_graph n s ts hs    the graph of the table
---   Covers ts hs n          each end of each arc is below n
---   ArcTable n s ts hs      what the questions put to a graph settle: a well-formed graph within the limits of document 01
+--   Covers ts hs n           each end of each arc is below n
+--   ArcTable n s ts hs       what the questions put to a graph settle: a well-formed graph within the limits of document 01
 use Rattle.std.specs.Prelude.{◌≡◌, List, ℕ, ◌≤◌, ◌<◌, length, get_or}
 use Rattle.formats.specs.Limits.{arcs_most, mate_pairs_most}
 use Rattle.counting.specs.Pairs.{zip_pairs}

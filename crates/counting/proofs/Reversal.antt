@@ -4,7 +4,7 @@
 --   reverse_twice               an involution, reversed twice, gives the list back
 --   distinct_reverse            an injective map makes no repeats
 --   length_reverse              as long as the list
---   get_d_reverse                the element at an index, counted from the end
+--   get_d_reverse               the element at an index, counted from the end
 use mathlib.Core.Path.{◌≡◌, refl, sym, ap, subst, ◌∙◌}
 use mathlib.Core.Logic.{◌⊎◌, inl, inr}
 use mathlib.Core.List.{List, [], ◌∷◌, ◌++◌, append_assoc, append-nil}

@@ -1,6 +1,6 @@
 -- Runs of stores into a list.
---   sets_append                     a run of stores behind another is one run
---   take_sets                       what was stored at the front, read back
+--   sets_append                       a run of stores behind another is one run
+--   take_sets                         what was stored at the front, read back
 --   get_d_sets_out, get_d_sets_in     what is read outside the run, and inside it
 use mathlib.Core.Path.{◌≡◌, refl, ◌∙◌}
 use mathlib.Core.Logic.{◌⊎◌, inl, inr, ⊎_elim}

@@ -5,7 +5,7 @@
 --   Distinct xs         no element stands twice
 --   InjectiveOn f xs    f sends different elements of xs to different numbers
 --   image f xs          f of each element, in order
---   reverse_map f xs     f of each element, the last first
+--   reverse_map f xs    f of each element, the last first
 --   find f xs           the first element of which f holds, 0 where there is none
 use Rattle.std.specs.Prelude.{◌≡◌, ◌⊎◌, Bool, List, [], ◌∷◌, ◌++◌, ℕ}
 use Rattle.counting.specs.Tests.{pick}

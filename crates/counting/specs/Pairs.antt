@@ -1,7 +1,7 @@
 -- A pair of numbers (document 03): an arc's tail and head as they are read and stored, a fit's two cameras, the numbers of a body frame.
---   pair a b           the pair of a and b
+--   pair a b            the pair of a and b
 --   no_pair             the pair of zeros, read past a list's end
---   ends xs            the numbers of the pairs, both of each, in order
+--   ends xs             the numbers of the pairs, both of each, in order
 --   firsts_of xs        the first number of each pair, in order
 --   seconds_of xs       the second number of each pair (document 03)
 --   zip_pairs xs ys     two lists, pair by pair, as far as both go

@@ -1,13 +1,13 @@
 -- Document 03's tests over lists, taken over from its Frames, Graph and Promise; `keep` for elements of any type.
---   pick b x y      x where b is true, else y
---   all f xs        f holds of every element
---   any f xs        f holds of some element
---   among x xs      the number x is an element
---   same xs ys      two lists of numbers are the same
+--   pick b x y       x where b is true, else y
+--   all f xs         f holds of every element
+--   any f xs         f holds of some element
+--   among x xs       the number x is an element
+--   same xs ys       two lists of numbers are the same
 --   none_twice xs    no number stands twice
 --   up_from i n      i, i+1, .., n numbers
---   below n         0, 1, .., n-1
---   keep f xs       the elements of which f holds, in order
+--   below n          0, 1, .., n-1
+--   keep f xs        the elements of which f holds, in order
 use Rattle.std.specs.Prelude.{Bool, true, false, ◌&&◌, ◌||◌, not, List, [], ◌∷◌, ℕ, zero, suc, eqb}
 
 abbrev pub pick : {A : Type 0} → Bool → A → A → A

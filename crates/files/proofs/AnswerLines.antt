@@ -1,10 +1,10 @@
 -- Lines of an answer, seven bytes for each value, written one behind the other.
---   writing_start, writing_next, writing_end    none is written; one more is; all are
---   class_lines_lem, mark_lines_lem, path_lines_lem         document 03's lines are such lines
---   plan_text_lem, budget_text_lem                      and so are a plan's and a budget's, by first cameras, the second ones looked up
---   plan_size, budget_size, sheet_size          how many bytes a plan, a budget's answer and a standing sheet take
---   half_written                                a plan or a standing sheet written: a header of four digits, lines and an end frame
---   front_written, first_written                a text written at the front, as document 03 has it; the same of three parts
+--   writing_start, writing_next, writing_end           none is written; one more is; all are
+--   class_lines_lem, mark_lines_lem, path_lines_lem    document 03's lines are such lines
+--   plan_text_lem, budget_text_lem                     and so are a plan's and a budget's, by first cameras, the second ones looked up
+--   plan_size, budget_size, sheet_size                 how many bytes a plan, a budget's answer and a standing sheet take
+--   half_written                                       a plan or a standing sheet written: a header of four digits, lines and an end frame
+--   front_written, first_written                       a text written at the front, as document 03 has it; the same of three parts
 use mathlib.Core.Path.{◌≡◌, refl, ap}
 use mathlib.Core.List.{List, [], ◌∷◌, ◌++◌}
 use Prim.Native.Nat.{ℕ, suc, ◌+◌, ◌*◌, ◌≤◌, ◌<◌}

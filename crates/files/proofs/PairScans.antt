@@ -1,12 +1,12 @@
 -- Questions put to pairs that stand in two slices, one pair after the other: what is asked of all pairs is what is asked from a place on. What is
 -- asked of each pair alone is counting's Judged.
 --   arcs_named                      question 9 of arcs is that of their pairs
---   mates-, rise-, look-, order-    by question (10, 11 and 12, the look-up of 13, 9 of a barrier)
---   -next                           the pair at the place passes, so that what is asked goes on behind it
---   -fails                          it does not: rise-fails-pair, -order; mates-fails-tail, -head; order-fails-name, -class; look-fails
+--   mates_, rise_, look_, order_    by question (10, 11 and 12, the look-up of 13, 9 of a barrier)
+--   _next                           the pair at the place passes, so that what is asked goes on behind it
+--   _fails                          it does not: rise_fails_pair, _order; mates_fails_tail, _head; order_fails_name, _class; look_fails
 --   Looking n us vs y i             the pair y is looked up, and the pairs before i are passed
 --   look_start, look_settled        none is; the pair at the place settles the look-up
---   -last, _end                     it is the last one, or there is none left
+--   _last, _end                     it is the last one, or there is none left
 use mathlib.Core.Path.{◌≡◌, refl, sym, ◌∙◌}
 use mathlib.Core.Logic.{inl, inr, ⊎_elim}
 use mathlib.Core.Bool.{true, false, and-false}

@@ -1,9 +1,9 @@
 -- What a plan's bytes tell.
---   plan_header                             the number in its header, whatever stands behind the plan
+--   plan_header                                the number in its header, whatever stands behind the plan
 --   header_line n, pair_line x, end_line n     lines of a plan of n pairs, without their ends: the first, a pair's, the last
---   plan_lines_lem                              all lines of a plan
---   plan_first, plan_body, plan_last        the first; those between header and end are those of its pairs; the last
---   pairs_read_lem                              and the pairs that they say
+--   plan_lines_lem                             all lines of a plan
+--   plan_first, plan_body, plan_last           the first; those between header and end are those of its pairs; the last
+--   pairs_read_lem                             and the pairs that they say
 use mathlib.Core.Path.{◌≡◌, refl, ap, ◌∙◌}
 use mathlib.Core.Logic.{inl, inr}
 use mathlib.Core.List.{List, [], ◌∷◌, ◌++◌, map}

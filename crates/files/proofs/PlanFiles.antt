@@ -1,5 +1,5 @@
 -- The questions of a plan file, one after the other, and of a plan as it is written.
---   plan_shape_lem, plan_seven               a plan refused by 2 to 7, before anything is stored
+--   plan_shape_lem, plan_seven           a plan refused by 2 to 7, before anything is stored
 --   plan_long                            the header's number can be read
 --   plan_room, plan_holds, plan_read     its pairs can be stored, and asked; what is answered then
 --   plan_held                            where nothing is refused, the slices hold the file's pairs

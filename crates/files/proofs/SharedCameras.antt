@@ -1,5 +1,5 @@
 -- No camera in two pairs, asked with a table that has a flag for each camera passed.
---   shares_none flags pairs           the pairs share no camera, and have none that is flagged
+--   shares_none flags pairs          the pairs share no camera, and have none that is flagged
 --   shared_start                     a table of zeros leaves every pair free
 --   shared_next                      a free pair: its cameras are flagged, and what is asked goes on behind it
 --   shared_fails_first, _second      a camera that is flagged: it is in two pairs

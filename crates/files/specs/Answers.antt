@@ -1,6 +1,6 @@
 -- Answers as they are written at the front of a lent buffer.
 --   over new old                            a buffer with new bytes at the front, the others as they were (document 03)
---   each_line line i xs                      a line for each value, made of its number, from i on, and the value
+--   each_line line i xs                     a line for each value, made of its number, from i on, and the value
 --   Writing line xs before at out next i    lines of seven bytes, from `at` on: i of them are written, and the next one's place is `next`
 --   WrittenFirst text before after size     the text stands at the front and nothing else differs; its size is told
 use Rattle.std.specs.Prelude.{◌≡◌, List, [], ◌∷◌, ◌++◌, ℕ, suc, ◌+◌, ◌*◌, ◌≤◌, length, drop}

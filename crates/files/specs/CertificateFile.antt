@@ -7,7 +7,7 @@
 --   barrier_sized, barrier_questions    a barrier's
 --   path_stored, barrier_stored         what a reader stores: the body where 2 to 8 are answered yes
 --   cert_fault, cert_holds              of either kind: the first question answered no, and past the questions whether it holds
---   path_lines, pathText               a path as it is written
+--   path_lines, path_text               a path as it is written
 --   class_lines, barrier_text           and a barrier
 use Rattle.std.specs.Prelude.{Bool, true, ◌&&◌, List, [], ◌∷◌, ◌++◌, ℕ, suc, ltb, leb, eqb, length}
 use Rattle.formats.specs.Kinds.{barrier_end, barrier_kind, class_kind, path_end, path_kind, step_kind}

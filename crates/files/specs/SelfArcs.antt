@@ -1,10 +1,10 @@
 -- What is promised of graph files where an arc may lead from a node to itself (document 02, L5).
---   SelfArc g           some arc of g leads from a node to itself
---   self_arc_fault n      the refusal of a file with such an arc, where document 03's questions come to n: 16 where they pass all or fail 10, else n
---   OthersAsBefore      without such an arc the refusal is document 03's
---   SelfArcsRefused     with one, a file is refused, with that number
---   AcceptedIs          so a file is accepted exactly if document 03's questions accept it and no arc of its graph is such a one
---   SixteenIs           and 16 is the refusal exactly if some arc is, and document 03's questions pass all or fail 10
+--   SelfArc g            some arc of g leads from a node to itself
+--   self_arc_fault n     the refusal of a file with such an arc, where document 03's questions come to n: 16 where they pass all or fail 10, else n
+--   OthersAsBefore       without such an arc the refusal is document 03's
+--   SelfArcsRefused      with one, a file is refused, with that number
+--   AcceptedIs           so a file is accepted exactly if document 03's questions accept it and no arc of its graph is such a one
+--   SixteenIs            and 16 is the refusal exactly if some arc is, and document 03's questions pass all or fail 10
 use Rattle.std.specs.Prelude.{◌≡◌, ◌↔◌, ◌⊎◌, ◌||◌, List, ℕ, ◌<◌, eqb, length}
 use Rattle.counting.specs.Tests.{pick}
 use Rattle.skew.specs.Graph.{Graph}

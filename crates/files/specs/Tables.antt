@@ -1,7 +1,7 @@
 -- Numbers of a file as they stand in lent slices.
 --   Holds n us vs      both slices have so many
 --   stored qs xs       what is stored of xs: all of it where no question is answered no, else nothing
---   is_free ts x        a table of flags has none set for either camera of x
+--   is_free ts x       a table of flags has none set for either camera of x
 use Rattle.std.specs.Prelude.{Bool, ◌&&◌, not, List, [], ℕ, ◌≤◌, eqb, length}
 use Rattle.counting.specs.Tests.{pick}
 use Rattle.counting.specs.Pairs.{Pair}

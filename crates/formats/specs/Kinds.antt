@@ -1,12 +1,12 @@
 -- Kinds of frames (document 01, "Frames"): of each file its header, its body lines and its end; and the programs' own lines.
---   graph_kind, arc_kind, graph_end              a graph
+--   graph_kind, arc_kind, graph_end               a graph
 --   stock_kind, fit_kind, lit_kind, stock_end     a stock: fits, then lit pairs
---   path_kind, step_kind, path_end               a path: arc numbers
---   barrier_kind, class_kind, barrier_end        a barrier: node and class
---   sheet_kind, mark_kind, sheet_end             a standing sheet: camera and mark
---   plan_kind, pair_kind, plan_end               a plan
---   budget_kind, budget_end                     what a budget of searches comes to (document 02, L4): its lines are a plan's
---   verdict_kind, refusal_kind                  a check's yes or no, and a refusal
+--   path_kind, step_kind, path_end                a path: arc numbers
+--   barrier_kind, class_kind, barrier_end         a barrier: node and class
+--   sheet_kind, mark_kind, sheet_end              a standing sheet: camera and mark
+--   plan_kind, pair_kind, plan_end                a plan
+--   budget_kind, budget_end                       what a budget of searches comes to (document 02, L4): its lines are a plan's
+--   verdict_kind, refusal_kind                    a check's yes or no, and a refusal
 use Rattle.std.specs.Prelude.{ℕ}
 
 abbrev pub graph_kind : ℕ

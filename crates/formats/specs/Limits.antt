@@ -1,18 +1,18 @@
 -- Limits (document 01, "Questions put to a call"), each with the question that asks for it.
---   callers          17: sets of counts in a tally; a caller's number is below it
---   room             1: bytes of an answer's buffer, at least
---   file_most         2: bytes of a file
---   lines_most        lines that a file of so many bytes can have behind a header, each of seven bytes at least
+--   callers            17: sets of counts in a tally; a caller's number is below it
+--   room               1: bytes of an answer's buffer, at least
+--   file_most          2: bytes of a file
+--   lines_most         lines that a file of so many bytes can have behind a header, each of seven bytes at least
 --   mate_pairs_most    5: mate pairs of a graph
---   cameras_most      5: cameras of a stock
---   pairs_most        pairs of a stock's pairing, at most: half its cameras
+--   cameras_most       5: cameras of a stock
+--   pairs_most         pairs of a stock's pairing, at most: half its cameras
 --   plan_pairs_most    7: pairs that a plan's header can tell
---   arcs_most         8: arcs of a graph
---   fits_most         8: fits of a stock
---   steps_most        8: lines of a path
---   class_most        9: the highest class
---   searches_most     15: searches of a budget, enough for a plan of every stock
---   names_most        19: names under which pairings are kept
+--   arcs_most          8: arcs of a graph
+--   fits_most          8: fits of a stock
+--   steps_most         8: lines of a path
+--   class_most         9: the highest class
+--   searches_most      15: searches of a budget, enough for a plan of every stock
+--   names_most         19: names under which pairings are kept
 use Rattle.std.specs.Prelude.{ℕ}
 
 abbrev pub callers : ℕ

@@ -1,13 +1,13 @@
 -- Questions 6 and 7, line by line from the front: the body frames in the order of their kinds, then the end frame.
 --   frame_kind, frame_length, frame_no, frame_by, frame_size      a frame of a kind, as a line and as a part of the file
---   first_kind_lem, last_kind_lem                                         the kinds of a layout's list
+--   first_kind_lem, last_kind_lem                                 the kinds of a layout's list
 --   fit_bodies                                                    one kind of body line is that kind twice
 --   fit_runs                                                      lines that fit are a run of the first kind, then one of the second
 --   told number count firsts                                      an answer: the number, and the counts beside it
---   fits y kind line, kind_at y kind line                          a body frame of a kind; the kind it is read as: the one read now, else the second
---   firsts_past y kind firsts                                      how many lines of the first kind there are past one of a kind
---   body_from y kind count firsts lines                            document 03's answer of the lines left: the kind read now, the lines passed, those of the first kind
---   whole_body y g, body_answer                                    that of all lines, and so what the reader is to answer
+--   fits y kind line, kind_at y kind line                         a body frame of a kind; the kind it is read as: the one read now, else the second
+--   firsts_past y kind firsts                                     how many lines of the first kind there are past one of a kind
+--   body_from y kind count firsts lines                           document 03's answer of the lines left: the kind read now, the lines passed, those of the first kind
+--   whole_body y g, body_answer                                   that of all lines, and so what the reader is to answer
 --   BodyLeft y g at count firsts kind                             what is left at a place answers as the whole
 --   left_start, left_next                                         so at the first line, and past a line that fits
 --   left_fails, left_end, left_none                               the answers: at a line that does not fit, at the last line, at no line

@@ -1,7 +1,7 @@
 -- How many lines a file of so many bytes has at most.
 --   line_bytes lines    the bytes that lines take at least, each with one byte that ends it
---   lines_bytes        the lines of a file take no more than the file has; the last may lack its end
---   long_few           so lines of six digits or more are at most a seventh
+--   lines_bytes         the lines of a file take no more than the file has; the last may lack its end
+--   long_few            so lines of six digits or more are at most a seventh
 use mathlib.Core.Path.{◌≡◌}
 use mathlib.Core.Bool.{true}
 use mathlib.Core.List.{List, [], ◌∷◌}

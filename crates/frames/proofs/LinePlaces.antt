@@ -5,7 +5,7 @@
 --   same_control                                  and up to the next control character
 --   control_next, control_here, control_over      where that is: past another byte, here, at the file's end
 --   lines_here, lines_some, last_here             the lines from a place on: the line there, and those from the next on
---   line_after_lem                                    where the line behind it begins
+--   line_after_lem                                where the line behind it begins
 --   ends_here                                     whether the last line is ended, from a place on
 --   part_snoc                                     a part with one byte more
 --   part_length, part_tail                        how long a part is; a part that goes on to the file's end

@@ -3,14 +3,14 @@
 --   with_returns chosen f              a carriage return put before any choice of the line feeds that have none right before them
 --   feed_lines f                       the lines of document 03, each ended by a line feed alone
 --   EndedLine, ended, end_bytes        a line and which end it has; the bytes of an end
---   text_of ls, bytes_of ls             the file of such lines; the lines without their ends
+--   text_of ls, bytes_of ls            the file of such lines; the lines without their ends
 --   is_inner c                         neither a carriage return nor a line feed
---   LinesKept                         carriage returns put in change no line, nor whether the last one is ended, and never make a file shorter
---   LinesRead                         the lines of a file are the lines it was made of, whichever end each has
---   WholeIs                           question 3 is answered yes exactly for files made of frames, each ended either way
---   FeedsAsBefore                     without carriage returns the lines are document 03's
---   is_plain_text t                     a text is whole lines of digits, each ended by a line feed alone
---   WritesDigits                      what is written of a number is digits alone, and so no byte of a line end
+--   LinesKept                          carriage returns put in change no line, nor whether the last one is ended, and never make a file shorter
+--   LinesRead                          the lines of a file are the lines it was made of, whichever end each has
+--   WholeIs                            question 3 is answered yes exactly for files made of frames, each ended either way
+--   FeedsAsBefore                      without carriage returns the lines are document 03's
+--   is_plain_text t                    a text is whole lines of digits, each ended by a line feed alone
+--   WritesDigits                       what is written of a number is digits alone, and so no byte of a line end
 use Rattle.std.specs.Prelude.{◌≡◌, ◌↔◌, Bool, true, false, ◌&&◌, not, List, [], ◌∷◌, ◌++◌, ℕ, suc, ◌≤◌, eqb, length}
 use Rattle.counting.specs.Tests.{pick, all, among}
 use Rattle.frames.specs.Frames.{is_digit, with_byte, lines_of, ends_whole, is_frame, is_whole_file, hex_bytes}

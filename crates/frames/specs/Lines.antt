@@ -1,12 +1,12 @@
 -- Lines by their places in a file (document 01, "Frames"). What ends a line is said in `line_end`, and of whole
 -- files in `lines_of` (Frames).
---   line_end s              how many bytes the line end takes that stands at the front of s; 0 where none stands there
---   control_at s            how many bytes stand before the first control character of s, as both bytes of a line end are
---   line_length s           how many bytes stand before the first line end of s
+--   line_end s             how many bytes the line end takes that stands at the front of s; 0 where none stands there
+--   control_at s           how many bytes stand before the first control character of s, as both bytes of a line end are
+--   line_length s          how many bytes stand before the first line end of s
 --   part i e f             the bytes of f from i up to, not including, e
---   is_plain n l            the line l is n digits
---   line_after f at         where the line behind the one at a place begins
---   past_lines n f at       where the line n lines further begins
+--   is_plain n l           the line l is n digits
+--   line_after f at        where the line behind the one at a place begins
+--   past_lines n f at      where the line n lines further begins
 --   LineAt f at end next   the line of f that begins at `at` ends before `end`, and what follows its line end begins at `next`
 use Rattle.std.specs.Prelude.{◌≡◌, Bool, ◌&&◌, List, [], ◌∷◌, ℕ, zero, suc, ◌+◌, ◌-◌, ◌<◌, ◌≤◌, eqb, ltb, length, take, drop}
 use Rattle.counting.specs.Tests.{pick, all}

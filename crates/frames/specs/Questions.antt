@@ -1,12 +1,12 @@
 -- Questions put one after the other; the first answered no ends the reading, and its number is the refusal (document
 -- 01, "Questions put to a call").
---   Question, ask n z        the question with the number n, answered yes where z is true
+--   Question, ask n z         the question with the number n, answered yes where z is true
 --   first_no qs               the number of the first answered no, 0 where there is none
 --   numbers_are p qs          p holds of every question's number
 --   are_numbered qs           no question has the number 0
 --   answer_to n qs            whether the question with the number n is answered yes
 --   answers_before n qs       whether every question before that one is
---   answered n x             x beside the number n where that is no refusal, 0 beside a refusal
+--   answered n x              x beside the number n where that is no refusal, 0 beside a refusal
 use Rattle.std.specs.Prelude.{Bool, true, ◌&&◌, List, [], ◌∷◌, ℕ, eqb, ltb}
 use Rattle.counting.specs.Tests.{pick}
 

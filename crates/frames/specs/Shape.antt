@@ -3,16 +3,16 @@
 --   form_of layout, bodies_of first second        the form that a layout stands for; its body kinds, one where both are the same
 --   first_kind, last_kind                         a form's body kinds
 --   last_of lines, before_last lines              the last of some lines, and those before it
---   lines_fit kinds size end lines               question 6, of the lines after the header
+--   lines_fit kinds size end lines                question 6, of the lines after the header
 --   header_questions form file, header_fault      questions 2, 3 and 4
 --   body_questions form lines, body_fault         questions 6 and 7, of the lines after the header
---   end_fault kind count line                    what the last line decides of them
---   shape_questions form file z                  questions 2 to 7, z the answer to 5
---   sized_questions form file z e                questions 2 to 8, z the answer to 5 and e to 8
---   certificate_questions form file e            the same of a certificate, which has no question 5
---   Counted number count firsts n c m           n is the number, c and m are the counts beside it
---   HeaderAnswer, BodyAnswer, ShapeAnswer       what each reader answers: a number, and 0 beside a refusal
---   Shaped form file next count firsts          all that is known where no question up to 7 is answered no
+--   end_fault kind count line                     what the last line decides of them
+--   shape_questions form file z                   questions 2 to 7, z the answer to 5
+--   sized_questions form file z e                 questions 2 to 8, z the answer to 5 and e to 8
+--   certificate_questions form file e             the same of a certificate, which has no question 5
+--   Counted number count firsts n c m             n is the number, c and m are the counts beside it
+--   HeaderAnswer, BodyAnswer, ShapeAnswer         what each reader answers: a number, and 0 beside a refusal
+--   Shaped form file next count firsts            all that is known where no question up to 7 is answered no
 use Rattle.std.specs.Prelude.{◌≡◌, Bool, true, ◌&&◌, List, [], ◌∷◌, ◌++◌, ℕ, ◌+◌, ◌-◌, ◌≤◌, ◌<◌, ltb, leb, eqb, length, get_or, take, drop}
 use Rattle.formats.specs.Limits.{file_most}
 use Rattle.counting.specs.Tests.{pick, all}

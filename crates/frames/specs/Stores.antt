@@ -1,9 +1,9 @@
 -- Body frames stored in slices that the caller lends. A run is the lines of one kind that stand together; the end frame, being of
 -- another kind, ends the last one.
---   has_kind kind line                  the line's first two digits are that kind
---   run_of kind lines, past_run          the lines at the front that are of a kind, and those past them
---   run_at kind g at                    the run of a kind that begins at a place of g
---   is_long size line                   the line is digits, at least so many
+--   has_kind kind line                 the line's first two digits are that kind
+--   run_of kind lines, past_run        the lines at the front that are of a kind, and those past them
+--   run_at kind g at                   the run of a kind that begins at a place of g
+--   is_long size line                  the line is digits, at least so many
 --   Storable g at                      what storing asks of the lines from a place on: digits, as many as a body frame has at least
 --   RunPassed kind g at count next     the run that begins at `at` has `count` lines, and `next` is where it stops
 --   PairsStored, NumbersStored xs ..   pairs stand at the front of two slices, or numbers of one, and nothing else differs

@@ -1,9 +1,9 @@
 -- Runs of bytes as they are written into a lent buffer, and compared with the front of a file.
 --   Written before at size text after next    `text`, of `size` bytes, stands at `at` and nothing else differs; `next` is the place right behind it
---   begins_with text file                      the file's first bytes are those of `text`
---   barrier_line                               the first line of a barrier, as bytes (document 01, "The form each place takes")
---   barrier_line_cr_lf                           the same with a carriage return before its line feed (document 02, L1)
---   begins_barrier file                        the file begins with that line, ended either way
+--   begins_with text file                     the file's first bytes are those of `text`
+--   barrier_line                              the first line of a barrier, as bytes (document 01, "The form each place takes")
+--   barrier_line_cr_lf                        the same with a carriage return before its line feed (document 02, L1)
+--   begins_barrier file                       the file begins with that line, ended either way
 use Rattle.std.specs.Prelude.{◌≡◌, Bool, true, false, ◌&&◌, ◌||◌, List, [], ◌∷◌, ℕ, ◌+◌, eqb, length}
 use Rattle.std.proofs.lemmas.List.Edits.{sets}
 

@@ -1,5 +1,5 @@
 -- A run of arcs judged arc by arc.
---   wanted_from_lem                    is_wanted, arc by arc from the source
+--   wanted_from_lem                is_wanted, arc by arc from the source
 --   table_lent                     an arc table is one that a path may be judged by
 --   marks_none, marks_more         tables of marks: empty, and with one number more
 --   walking_start, _next           the loop that judges

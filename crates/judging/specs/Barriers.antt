@@ -1,6 +1,6 @@
 -- A table of classes judged class by class (document 01, "The barrier").
---   entered_once entries class             the counter of a class is 1, if it is an Xi
---   all_entered entries top                the same for each class up to top
+--   entered_once entries class            the counter of a class is 1, if it is an Xi
+--   all_entered entries top               the same for each class up to top
 --   ArcAt tails heads bound i t h         arc i of the table leads from t to h, both below a bound
 --   Counting classes arcs entries i       the counters hold the entries of the first i arcs
 --   LargestFrom classes k top             top is the largest class from place k on

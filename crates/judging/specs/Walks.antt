@@ -1,5 +1,5 @@
 -- A run of arcs judged arc by arc, with the nodes seen and the arcs used so far (document 01, "The graph").
---   wanted_from g at seen used arcs                    from a node on, the arcs lead to the source's mate, and meet no node seen and no mate of an arc used
+--   wanted_from g at seen used arcs                   from a node on, the arcs lead to the source's mate, and meet no node seen and no mate of an arc used
 --   ArcsLent source tails heads                       a table of arcs that a path may be judged by: few, each with a tail and a head, the source a byte
 --   PathLent source tails heads path                  such a table, and arc numbers of it
 --   ArcInside tails i                                 a number of the table, and of a table of arcs used; so is its mate's

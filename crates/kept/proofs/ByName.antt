@@ -3,7 +3,7 @@
 --   without_gone        a name that was taken out is not kept
 --   without_other       what stands under another name stays
 --   without_fewer       no more entries are left; fewer where the name was kept
---   names_of             their names
+--   names_of            their names
 --   without_once        no name stands twice then either, nor does the one that was taken out stand there
 use mathlib.Core.Path.{◌≡◌, refl, sym, ap, ◌∙◌}
 use mathlib.Core.Logic.{◌≢◌, inl, inr}

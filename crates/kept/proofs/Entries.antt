@@ -1,5 +1,5 @@
 -- The entries that the slots say, where slots are moved, passed and closed up.
---   slot_at i                                      where slot i begins
+--   slot_at i                                     where slot i begins
 --   part_sized                                    a part by its two ends, as slices are taken, and by its size
 --   entries_same, entries_length                  the same slots; as many entries as slots
 --   slot_byte, slot_part, name_at                 a byte and a part of a slot, and its name, as they stand in the block

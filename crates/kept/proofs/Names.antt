@@ -1,6 +1,6 @@
 -- A name looked for among the entries, the last kept first.
---   Looking b count n i          what is asked of the slots below `count` is asked of those below i
---   look_start, look_next        all slots are left; one that has another name is passed
+--   Looking b count n i              what is asked of the slots below `count` is asked of those below i
+--   look_start, look_next            all slots are left; one that has another name is passed
 --   found_none_lem, found_here       no slot is left; this one has the name
 use mathlib.Core.Path.{◌≡◌, refl, sym, ◌∙◌}
 use mathlib.Core.Logic.{◌≢◌}

@@ -1,18 +1,18 @@
 -- The state as the code holds it, in a block of bytes that the caller lends: four bytes of numbers, the fits by first and by second cameras, and eight
 -- slots of 128 bytes, each a name, a number of pairs, and their first and second cameras. Slot 0 was kept first. A number above what there is room for
 -- stands for that, so that any bytes are some state.
---   block_size                          the block's bytes
---   kept_at                             where the number of names stands
---   firsts_at, seconds_at, slots_at       where the fits' cameras and the slots begin
---   slot_size, pairs_at, others_at        a slot's bytes, and where the cameras of its pairs begin in it
---   cameras_in, fits_in, kept_in          the numbers
---   slot_of i b, slot_pairs s            the bytes of slot i; the pairs that a slot's bytes say
---   named_in i b                        the name and the pairs of slot i
---   entries_in k b                      those of slots 0 to k - 1, the last kept first
---   state_of b                          the state that a block stands for
+--   block_size                         the block's bytes
+--   kept_at                            where the number of names stands
+--   firsts_at, seconds_at, slots_at    where the fits' cameras and the slots begin
+--   slot_size, pairs_at, others_at     a slot's bytes, and where the cameras of its pairs begin in it
+--   cameras_in, fits_in, kept_in       the numbers
+--   slot_of i b, slot_pairs s          the bytes of slot i; the pairs that a slot's bytes say
+--   named_in i b                       the name and the pairs of slot i
+--   entries_in k b                     those of slots 0 to k - 1, the last kept first
+--   state_of b                         the state that a block stands for
 --   Owes before k number after         what a call that may change the state owes: the number that is the definition's, the block of the state after the
 --                                      call, and where it is refused every byte as it was
---   text_of b k, told_of b k             what a call writes, and what it tells: its number and that text's size
+--   text_of b k, told_of b k           what a call writes, and what it tells: its number and that text's size
 --   Returns block k buffer told after  what coming back owes: number and size, and that text at the buffer's front
 --   Led before ks after                calls in a row, each given the block that the last one left
 use Rattle.std.specs.Prelude.{◌≡◌, ◌≢◌, List, [], ◌∷◌, ℕ, zero, suc, ◌+◌, ◌*◌, min, length, get_or, take, drop}

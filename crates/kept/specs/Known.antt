@@ -1,11 +1,11 @@
 -- Pairings kept under names, by examples (document 02, L8).
---   keeping n ps                      pairs kept under a name, in plan frames
---   plan_of told ps count              plan frames whose header and end frame tell these numbers
+--   keeping n ps                        pairs kept under a name, in plan frames
+--   plan_of told ps count               plan frames whose header and end frame tell these numbers
 --   one_pair, wrong_stock               the pair of cameras 0 and 1; a stock file of two cameras with a fit of a third
 --   until_kept, since_then              calls before 65 is last kept, and calls after it
---   some_calls                         both, and that call between them
---   eight_kept                         eight names kept before any stock
---   KnownKept                         what is asked of a keep, what comes back after those calls, and a ninth name
+--   some_calls                          both, and that call between them
+--   eight_kept                          eight names kept before any stock
+--   KnownKept                           what is asked of a keep, what comes back after those calls, and a ninth name
 use Rattle.std.specs.Prelude.{◌≡◌, List, [], ◌∷◌, ◌++◌, ℕ, length}
 use Rattle.formats.specs.Kinds.{fit_kind, plan_end, plan_kind, stock_end, stock_kind}
 use Rattle.counting.specs.Pairs.{Pair, pair}

@@ -1,5 +1,5 @@
 -- What is done to a block part by part (Block has its parts).
---   front_of b                      what stands before the slots: the numbers and the fits
+--   front_of b                     what stands before the slots: the numbers and the fits
 --   StockPut c fs b                a block with this stock, and no name
 --   KeptPut b k b'                 another number of names, and nothing else differs
 --   Moved b from to b'             a slot's bytes stand in another slot too, and nothing else differs

@@ -1,13 +1,13 @@
 -- Pairings kept under names of one byte, for one stock (document 02, L8): the state between calls, and each call as a function of it.
---   Named, State                     a name with its pairs; the present stock's cameras and fits, and what is kept, the last kept first
+--   Named, State                      a name with its pairs; the present stock's cameras and fits, and what is kept, the last kept first
 --   power_on                          before the first stock: the one without cameras, and no names
---   is_named, is_kept                  an entry has the name; some entry of the state has
+--   is_named, is_kept                 an entry has the name; some entry of the state has
 --   without, pairs_under              the entries that have another name; the pairs that stand under a name
---   KeptCall                         a call: a stock brought, a plan file kept under a name, coming back with a buffer of so many bytes, forgetting
---   name_fault, place_fault            questions 18 and 19
+--   KeptCall                          a call: a stock brought, a plan file kept under a name, coming back with a buffer of so many bytes, forgetting
+--   name_fault, place_fault           questions 18 and 19
 --   fault_of s k                      the first question that the call answers no, 0 where there is none
 --   KeptAnswer, answer_of s k         what a call answers: that number, and what it writes, which is nothing beside a refusal
---   changed s k, after s k           the state after an accepted call; after any call, which where it is refused is the state before it
+--   changed s k, after s k            the state after an accepted call; after any call, which where it is refused is the state before it
 --   after_calls s ks                  the state after calls in a row, each given what the last one left
 use Rattle.std.specs.Prelude.{Bool, ◌||◌, not, List, [], ◌∷◌, ℕ, ltb, eqb, length}
 use Rattle.formats.specs.Limits.{names_most}

@@ -1,7 +1,7 @@
 -- The check's answer.
 --   verdict_refused, verdict_judged                                 a certificate refused, and one past the questions
 --   path_refused, path_judged, barrier_refused, barrier_judged      so of a path that was read, and of a barrier
---   barrier_verdict_lem, path_verdict_lem                                   the answer by the first line is the certificate's
+--   barrier_verdict_lem, path_verdict_lem                           the answer by the first line is the certificate's
 --   check_refused, check_judged                                     the call: a graph refused, and one past the questions
 use mathlib.Core.Path.{◌≡◌, ap, sym, ◌∙◌}
 use mathlib.Core.Logic.{◌≢◌}

@@ -1,7 +1,7 @@
 -- What the budgeted call answers by value, and what is written for an accepted stock (document 02, L4).
 --   with_searches answer searches  an answer with the searches that were run
---   BudgetWritten                 a pairing that so many searches come to stands at the front of a buffer and is told
---   BudgetAnswered                what the call owes, in one record: result and buffer, and what it came to
+--   BudgetWritten                  a pairing that so many searches come to stands at the front of a buffer and is told
+--   BudgetAnswered                 what the call owes, in one record: result and buffer, and what it came to
 use Rattle.std.specs.Prelude.{◌≡◌, true, List, ℕ, length}
 use Rattle.counting.specs.Pairs.{Pair}
 use Rattle.matching.specs.Stock.{Stock}

@@ -1,8 +1,8 @@
 -- What the calls by value share (document 01, "Questions put to a call"): the questions before a file's, and what is answered, with what it came to.
 --   CallAsked caller size number     the number that 17, then 1, refuse with; 0 where neither does
 --   CallPasses caller size           neither refuses: what else is asked decides, and there is room
---   refused_by number                 a refused call
---   answered_by size outcome          an answered one, by the size of what is written
+--   refused_by number                a refused call
+--   answered_by size outcome         an answered one, by the size of what is written
 use Rattle.std.specs.Prelude.{◌≡◌, ℕ, ◌≤◌}
 use Rattle.formats.specs.Limits.{room}
 use Rattle.lanes.specs.Entry.{call_fault}

@@ -1,19 +1,19 @@
 -- What each call answers and leaves: its result and the buffer, and what it comes to (document 01, "Questions put to a call"; the definitions are
 -- document 03's, with the verdict's lines, and document 02's: the budgeted call of L4, L6's one for a plan and a sheet, and L7's callers). What it
 -- comes to is counted in Tallies.
---   caller_fault, room_fault, call_fault                 question 17; question 1, by the buffer's length; 17, then 1, then what else is asked
+--   caller_fault, room_fault, call_fault                  question 17; question 1, by the buffer's length; 17, then 1, then what else is asked
 --   answer_fault, stock_call_fault, check_fault           the first question answered no, by call
---   told                                              a call's result: its refusal, or 0 and the answer's size
---   Answers                                           a text is told, and stands at the buffer's front
---   GraphOwes, graph_outcome                           a graph's answer, some path or the canonical barrier; what it comes to
---   check_post, verdict_line                            the check's answer, and the line that says it
---   sheet_of_file                                       a stock's standing sheet
---   StockOwes, stock_outcome                           a stock's answer, some plan and that sheet: which largest plan is left free; what it comes to
---   most_fault, budget_fault                            question 15; 17, 1, then 15, then the stock's
---   searched                                          a call's result with the searches that were run, 0 in a refusal
---   budget_text_of, BudgetOwes                          what a budget of searches comes to, as it is written; which pairing is left free
---   budget_outcome                                     what that call comes to
---   refusal_line                                       the line that says a refusal
+--   told                                                  a call's result: its refusal, or 0 and the answer's size
+--   Answers                                               a text is told, and stands at the buffer's front
+--   GraphOwes, graph_outcome                              a graph's answer, some path or the canonical barrier; what it comes to
+--   check_post, verdict_line                              the check's answer, and the line that says it
+--   sheet_of_file                                         a stock's standing sheet
+--   StockOwes, stock_outcome                              a stock's answer, some plan and that sheet: which largest plan is left free; what it comes to
+--   most_fault, budget_fault                              question 15; 17, 1, then 15, then the stock's
+--   searched                                              a call's result with the searches that were run, 0 in a refusal
+--   budget_text_of, BudgetOwes                            what a budget of searches comes to, as it is written; which pairing is left free
+--   budget_outcome                                        what that call comes to
+--   refusal_line                                          the line that says a refusal
 use Rattle.std.specs.Prelude.{◌≡◌, true, false, List, ℕ, ◌+◌, ltb, leb, eqb, length}
 use Rattle.formats.specs.Kinds.{refusal_kind, verdict_kind}
 use Rattle.formats.specs.Limits.{callers, room, searches_most}

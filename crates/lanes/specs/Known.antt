@@ -1,24 +1,24 @@
 -- Known graphs and stocks as files (document 01, "Known graphs and stocks"): what is accepted, refused, checked and written, byte for byte. So the
 -- promises, which speak of accepted files, speak of these.
---   arc_lines, graph_file_of             arcs as they are written; a graph with the source 0 as a file
+--   arc_lines, graph_file_of              arcs as they are written; a graph with the source 0 as a file
 --   g1_file, g4_file, g5_file, s5_file    G1, G4, G5 and S5
---   KnownFiles                        what the questions and the check say of them, and of files that are cut short
---   KnownTexts                        G1's answer, the sheets of S1 and S3 and the plan of S5, as the document prints them
---   header, ending, throughout        G1's two lines without their ends; a file with every line feed after a carriage return
---   KnownEnds                         files with such ends, answered alike; files whose lines are ended otherwise, refused with 3
---   four_marks, four_marks_file          a stock of eight cameras with every mark, two of them without a fit
---   KnownIsolated                     the sheets of three stocks with cameras without a fit
---   s5, s5_plan, no_cameras             S5, its plan; no cameras
---   triangle_lit ls                    S3 with these pairs lit
---   KnownAnswers                      the stock call's answers to S1 and S5, byte for byte; S3's sheet half, whichever pairs are lit
---   one_fit                            so many cameras, of which two fit each other
---   Budgets                           a pairing is one that so many searches may come to, with these numbers in the header
---   KnownBudgets                      S5's answers to budgets of 0, 1, 2 and 64 searches, and edges
---   KnownSelfArcs                     question 16, with those before and after it, and in the check; an arc to a node's mate
---   counts p b s r                    a caller's counts: paths, barriers, stocks, refusals
---   some_calls, after_them              calls of several callers, a check and wrong callers among them; the tally that they leave
---   near_largest n                     a tally with counts at their largest, the grader's barriers being n
---   KnownCallers                      question 17 before 1 and 15; those calls, one caller's own among them, and their sum; counts at their largest
+--   KnownFiles                            what the questions and the check say of them, and of files that are cut short
+--   KnownTexts                            G1's answer, the sheets of S1 and S3 and the plan of S5, as the document prints them
+--   header, ending, throughout            G1's two lines without their ends; a file with every line feed after a carriage return
+--   KnownEnds                             files with such ends, answered alike; files whose lines are ended otherwise, refused with 3
+--   four_marks, four_marks_file           a stock of eight cameras with every mark, two of them without a fit
+--   KnownIsolated                         the sheets of three stocks with cameras without a fit
+--   s5, s5_plan, no_cameras               S5, its plan; no cameras
+--   triangle_lit ls                       S3 with these pairs lit
+--   KnownAnswers                          the stock call's answers to S1 and S5, byte for byte; S3's sheet half, whichever pairs are lit
+--   one_fit                               so many cameras, of which two fit each other
+--   Budgets                               a pairing is one that so many searches may come to, with these numbers in the header
+--   KnownBudgets                          S5's answers to budgets of 0, 1, 2 and 64 searches, and edges
+--   KnownSelfArcs                         question 16, with those before and after it, and in the check; an arc to a node's mate
+--   counts p b s r                        a caller's counts: paths, barriers, stocks, refusals
+--   some_calls, after_them                calls of several callers, a check and wrong callers among them; the tally that they leave
+--   near_largest n                        a tally with counts at their largest, the grader's barriers being n
+--   KnownCallers                          question 17 before 1 and 15; those calls, one caller's own among them, and their sum; counts at their largest
 use Rattle.std.specs.Prelude.{◌≡◌, true, false, List, [], ◌∷◌, ◌++◌, ℕ, suc, eqb, length, drop}
 use Rattle.formats.specs.Kinds.{arc_kind, budget_end, budget_kind, fit_kind, graph_end, graph_kind, lit_kind, mark_kind, sheet_end, sheet_kind, stock_end, stock_kind}
 use Rattle.frames.specs.Frames.{or_else, frame4, frame6, frame8, frame_of4}

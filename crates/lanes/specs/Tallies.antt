@@ -2,9 +2,9 @@
 --   count_most, raised              a count's largest; one more below it
 --   no_counts, added                no counts; a caller's counts with one more of the count that an outcome names
 --   counts_of, tallied              a caller's counts in a tally; the tally with one more for a caller, where there is such a one
---   Asked, Call                    what is asked for, and of which caller, file and length of a buffer; or a check, which names no caller
+--   Asked, Call                     what is asked for, and of which caller, file and length of a buffer; or a check, which names no caller
 --   OutcomeRule, outcome_of         how calls come out; the rule that holds of the calls here
---   tally_by, tally_after            the tally after a call, by a rule, and by that rule
+--   tally_by, tally_after           the tally after a call, by a rule, and by that rule
 --   after_calls                     the tally after calls in a row, each given what the last one left
 use Rattle.std.specs.Prelude.{List, [], ◌∷◌, ℕ, suc, ltb, get_or, set}
 use Rattle.formats.specs.Limits.{callers}

@@ -1,8 +1,8 @@
 -- The check's answer, part by part (document 01, "Questions put to a call").
---   verdict_of n holds                  refused with n; where n is 0, whether the certificate holds
---   cert_number n                       a certificate's refusal as the check gives it: 40 added
+--   verdict_of n holds                   refused with n; where n is 0, whether the certificate holds
+--   cert_number n                        a certificate's refusal as the check gives it: 40 added
 --   path_verdict, barrier_verdict        the answer to a path, and to a barrier
---   cert_verdict                        to either
+--   cert_verdict                         to either
 use Rattle.std.specs.Prelude.{Bool, List, ℕ, ◌+◌, eqb}
 use Rattle.counting.specs.Tests.{pick}
 use Rattle.skew.specs.Graph.{Graph, is_wanted, is_barrier}

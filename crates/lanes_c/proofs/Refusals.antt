@@ -1,6 +1,6 @@
 -- What the library's calls return tells what they told: the first question answered no is never question 1 in a check, so a refusal is neither 0
 -- nor 1; and it is a number below 256, so it can be told from the size above it.
---   none_or_high n                 n is 0, or 2 or more
+--   none_or_high n               n is 0, or 2 or more
 --   check_high                   so is what the check's questions come to
 --   refused_high, says_which     so a refusal is 2 or more, and what is said of such a verdict tells it
 --   check_tells                  what the check says tells its verdict

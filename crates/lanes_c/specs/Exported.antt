@@ -1,11 +1,11 @@
 -- What an exported call returns and leaves: document 01's results as numbers, and the tally as sixteen counts (document 02, L7).
---   counts_at all at                                   four of them from a place on: paths, barriers, stocks, refusals
---   tally_of all, all_counts tally                      the tally that sixteen counts are, four a caller; and the sixteen of a tally
+--   counts_at all at                                  four of them from a place on: paths, barriers, stocks, refusals
+--   tally_of all, all_counts tally                    the tally that sixteen counts are, four a caller; and the sixteen of a tally
 --   CountsStand                                       where each count stands: caller c's four from 4 × c on, in that order
 --   CountsKept                                        nothing is lost either way: sixteen counts are those of their tally, and four sets those of their counts;
 --                                                     sixteen zeros are the tally of zeros
 --   packed told                                       a call's result: its number in the lowest byte, its size above
---   packed_searched searched                           the budgeted call's: the searches above the size, which takes four bytes
+--   packed_searched searched                          the budgeted call's: the searches above the size, which takes four bytes
 --   said verdict                                      the check's: 1 for yes, 0 for no, otherwise the refusal
 --   SaysWhich verdict, CheckTells                     1 is said of yes alone and 0 of no alone, a refusal is 2 or more; so it is of every verdict of the check
 --   Unpacks told, CallsTell                           number and size can be read off a call's result, the size also with what is above it masked; so it is

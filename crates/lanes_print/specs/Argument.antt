@@ -4,8 +4,8 @@
 --   too_many                    one more than question 15 allows
 --   said_from value text        the number said behind a value: no more than too_many, and that where a byte is no digit
 --   most_said text              the number said; too_many where nothing is
---   KnownArguments             0, 64, 007, 65, 320; an empty text, a sign and a blank
---   Reading text value i       i digits are read and say the value; with those left they say the whole
+--   KnownArguments              0, 64, 007, 65, 320; an empty text, a sign and a blank
+--   Reading text value i        i digits are read and say the value; with those left they say the whole
 use Rattle.std.specs.Prelude.{◌≡◌, Bool, ◌&&◌, List, [], ◌∷◌, ℕ, suc, ◌+◌, ◌-◌, ◌*◌, min, ◌≤◌, leb, eqb, length, drop}
 use Rattle.formats.specs.Limits.{searches_most}
 use Rattle.counting.specs.Tests.{pick, all}

@@ -1,5 +1,5 @@
 -- Flags of cameras.
---   no_flag        none is set in a table of zeros
+--   no_flag            none is set in a table of zeros
 --   flag_pair_lem      a pair's two stores set the flags of the cameras that it touches, and no other
 use mathlib.Core.Path.{◌≡◌, refl, sym, ◌∙◌}
 use mathlib.Core.Bool.{true, ◌||◌, or-true, or-false, or_assoc}

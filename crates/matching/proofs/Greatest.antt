@@ -3,7 +3,7 @@
 --   tried_pairing, kept_tried               what is tried is a pairing; every pairing in the order of the fits is tried
 --   matching_bound, greatest_bound          no pairing has more pairs
 --   greatest_pairing                        some pairing has as many
---   left-over, left_matching                left_over: some largest pairing leaves the camera over
+--   left_over_lem, left_matching            left_over: some largest pairing leaves the camera over
 --   fits_some, some_fits                    fits_left_over: it fits such a camera
 use mathlib.Core.Path.{◌≡◌, refl, sym, subst}
 use mathlib.Core.Logic.{inl, inr, ⊎_elim, ◌↔◌}

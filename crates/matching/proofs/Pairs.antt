@@ -1,5 +1,5 @@
 -- Lists of pairs, and the tests of Stock that speak of them.
---   same_pair_lem                             pairs with the same numbers are one
+--   same_pair_lem                         pairs with the same numbers are one
 --   same_is, is_same                      same_pair: one pair
 --   has_pair_in, in_has_pair              has_pair: an element
 --   in_ends, ends_in, length_ends         ends: the cameras of the elements

@@ -1,8 +1,8 @@
 -- Stores into a row of partners.
 --   row_partner                       a camera's partner, read with any default
 --   length_rotate, length_light       the row keeps its length
---   rotate_row_lem                        three stores are a rotation
---   light_row_lem                         two stores add a pair to the front of the list that the row stands for
+--   rotate_row_lem                    three stores are a rotation
+--   light_row_lem                     two stores add a pair to the front of the list that the row stands for
 --   own_row                           a row in which each camera is its own partner
 use mathlib.Core.Path.{◌≡◌, sym, ap, ◌∙◌, fun_ext}
 use mathlib.Core.Logic.{◌≢◌, ⊎_elim}

@@ -2,9 +2,9 @@
 -- representative; A, the inner cameras, are all that the cameras of a group fit outside it.
 --   Certificate n fs p D A group      what a doubled table without an augmenting path gives
 --   those n f                         the cameras that pass a test
---   is_representative                  one camera of each group
---   is_left_outer                       outer, and left over by a matching
---   is_left_or_inner                     that, or inner
+--   is_representative                 one camera of each group
+--   is_left_outer                     outer, and left over by a matching
+--   is_left_or_inner                  that, or inner
 use Rattle.std.specs.Prelude.{◌≡◌, ◌⊎◌, ◌≢◌, Bool, true, false, ◌&&◌, ◌||◌, List, ℕ, ◌<◌, eqb}
 use Rattle.counting.specs.Tests.{below, keep}
 use Rattle.counting.specs.Pairs.{Pair}

@@ -2,7 +2,7 @@
 --   rotate q u v            the matching q with u and v paired, v's old partner unlit
 --   LeavesOver n fs p k q   q is a matching with as many pairs as p that leaves k over
 --   Augments n fs p q       q is a matching with one pair more than p that keeps every lit camera lit
---   rotate_along g is q      the rotations of a path's arcs is, from a node of an unlit camera on: its arcs 0, 2, 4 and so on
+--   rotate_along g is q     the rotations of a path's arcs is, from a node of an unlit camera on: its arcs 0, 2, 4 and so on
 --   Rotates n g is q        each of them is between different cameras below n
 use Rattle.std.specs.Prelude.{◌≡◌, ◌≢◌, List, [], ◌∷◌, ℕ, ◌+◌, ◌/◌, ◌<◌, eqb, length}
 use Rattle.counting.specs.Tests.{pick}

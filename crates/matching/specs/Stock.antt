@@ -1,21 +1,21 @@
 -- Stocks, pairings, the greatest number of pairs, marks and plans (document 01, "Stocks"; the definitions are document 03's). A fit is an edge,
 -- a pairing a matching, the marks of cameras that have a fit are the Gallai-Edmonds decomposition, and a camera without one is an isolated vertex
 -- (document 02, L2).
---   Stock                                      cameras, fits and lit pairs
---   same_pair x y, same_pairs xs ys              the same pair; the same pairs in the same order
---   has_pair xs x                               the pair is one of these
---   touches x u, is_included xs u               the camera is in the pair; in one of the pairs
---   meets x y, none_shared xs                   two pairs have a camera in common; no two of them do
---   is_pairing fs ps                            fits, no camera in two
---   with_first x pss, all_pairings fs            those pairings to which x can be added, with x; every pairing of the fits
---   most_of pss, greatest fs                    the most pairs that one of these has; that a pairing of the fits has
+--   Stock                                         cameras, fits and lit pairs
+--   same_pair x y, same_pairs xs ys               the same pair; the same pairs in the same order
+--   has_pair xs x                                 the pair is one of these
+--   touches x u, is_included xs u                 the camera is in the pair; in one of the pairs
+--   meets x y, none_shared xs                     two pairs have a camera in common; no two of them do
+--   is_pairing fs ps                              fits, no camera in two
+--   with_first x pss, all_pairings fs             those pairings to which x can be added, with x; every pairing of the fits
+--   most_of pss, greatest fs                      the most pairs that one of these has; that a pairing of the fits has
 --   left_over fs u, fits_left_over fs u           some largest pairing leaves the camera over; it fits one that is so left over
---   pairing_mark fs u                           document 03's mark, by pairings alone: 0 so left over, 1 fits such a camera, 2 neither
---   mark_of fs u                                a camera's mark: 3 if it has no fit, else that
---   marks_from fs us, marks_of n fs              the marks of some cameras; of all
---   pair_before x y, pairs_rise xs               by first camera, then by second; smaller camera first, rising so
---   keeps_lit s ps                              every lit camera is still lit
---   is_plan s ps                                a largest pairing that keeps lit cameras lit; the lit pairs if they are largest
+--   pairing_mark fs u                             document 03's mark, by pairings alone: 0 so left over, 1 fits such a camera, 2 neither
+--   mark_of fs u                                  a camera's mark: 3 if it has no fit, else that
+--   marks_from fs us, marks_of n fs               the marks of some cameras; of all
+--   pair_before x y, pairs_rise xs                by first camera, then by second; smaller camera first, rising so
+--   keeps_lit s ps                                every lit camera is still lit
+--   is_plan s ps                                  a largest pairing that keeps lit cameras lit; the lit pairs if they are largest
 use Rattle.std.specs.Prelude.{Bool, true, false, ◌&&◌, ◌||◌, not, List, [], ◌∷◌, ◌++◌, ℕ, ltb, eqb, length}
 use Rattle.counting.specs.Tests.{pick, all, any, below}
 use Rattle.counting.specs.Pairs.{Pair}

@@ -1,6 +1,6 @@
 -- Loops over a row of partners.
---   row_graph row tails heads                  the graph of an arc table that belongs to the row
---   searched_graph row tails heads arcs        that of the front of one, as the code counts the pairs of nodes
+--   row_graph row tails heads                 the graph of an arc table that belongs to the row
+--   searched_graph row tails heads arcs       that of the front of one, as the code counts the pairs of nodes
 --   PathFound row tails heads arcs path k     a wanted path of that graph stands in the first k places of the path
 --   Following tails heads path row₀ i row     the rotations of the path up to its arc i are done
 --   NextRotation                              one more rotation: its cameras are in the row, and what is done then

@@ -1,14 +1,14 @@
 // Largest pairings (document 01, "Stocks"): from the lit pairs, search and augment until there is no path, or as often as a budget of searches allows
 // (document 02, L4). Why the searches until there is no path are enough:
 // 1. A regular path of the doubled table from the source to its mate is an augmenting path, a run of rotations that lights two cameras more and unlights
-// none. So every lit camera stays lit, and nothing changes if nothing is gained. (matching/proofs/Augmentation wanted-augments, Plans augmented-budgeted)
+// none. So every lit camera stays lit, and nothing changes if nothing is gained. (matching/proofs/Augmentation wanted_augments, Plans augmented_budgeted)
 // 2. Where there is no path, the reached nodes give the Gallai-Edmonds decomposition. Outer cameras, with 2k reached, fall into groups of odd size; whatever
 // a camera of a group fits outside it is inner, with 2k+1 reached alone. (matching/specs/Certificate, proofs/Groups, Decomposition certificate)
 // 3. That is the dual solution, the bound of Tutte and Berge: any pairing leaves over a camera of each group but for at most one group for each inner
-// camera. The row leaves over exactly so many, so no pairing has more pairs. (matching/proofs/Certificates representatives-count, largest)
+// camera. The row leaves over exactly so many, so no pairing has more pairs. (matching/proofs/Certificates representatives_count, largest)
 // 4. A path to 2k gives a pairing as large that leaves camera k over, and by the same bound a largest pairing leaves over outer cameras only. So outer is
 // mark 00, inner 01, the rest 02, whichever pairs are lit; but a camera without a fit, which is outer, has 03, and the fits tell it.
-// (matching/proofs/Augmentation reachable-left, Certificates left-is-outer, Largest no-path-marks)
+// (matching/proofs/Augmentation reachable_left, Certificates left_is_outer, Largest no_path_marks)
 // 5. The code's part: one search in proofs/OneSearch, the loop of searches in proofs/SearchRuns.
 //   Ending, PairsFound   how searches ended; how many pairs there are then, with that
 //   improve              one search

@@ -2,7 +2,7 @@
 --   RootAscent T L v b          the loop's state: b is a base on the way from v's bud to the root
 --   root_ascent_start, _next    from the base of v's bud up, bud by bud
 --   root_ascent_end             the tail of the base arc lies in no bud: b is the root
---   tail_at tails L b            the tail of the base arc
+--   tail_at tails L b           the tail of the base arc
 --   RootReads tails L b         where the loop reads, and the birth number falls
 --   root_reads                  on the way it is so
 use mathlib.Core.Path.{◌≡◌, sym, ap, subst, ◌∙◌}

@@ -1,8 +1,8 @@
 -- The state of a search, as the lent tables hold it.
 --   state_in L k              the state that labels and clock make
---   StateHeld g L k          a state with the invariant; the clock is bounded by the steps still to come
---   SearchHeld T L k         such a state over an arc table
---   Clear size marks         a table of zeros
+--   StateHeld g L k           a state with the invariant; the clock is bounded by the steps still to come
+--   SearchHeld T L k          such a state over an arc table
+--   Clear size marks          a table of zeros
 --   absorbed_in marks         the bases marked for absorption
 --   vias_of vias              the labels' arcs
 use Rattle.std.specs.Prelude.{◌≡◌, Bool, List, ℕ, ◌+◌, ◌-◌, ◌/◌, ◌%◌, ◌≤◌, ◌<◌, ltb, eqb, length, get_or}

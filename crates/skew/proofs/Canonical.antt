@@ -1,7 +1,7 @@
 -- The parts of X in a closed state that does not reach the source's mate: they are the trees of the forest of buds, and are numbered from 0 on.
 --   both_inX, both_x_node, x_node_both     X is the nodes that are reached with their mates
 --   x_nodes_distinct                       listed once each
---   part_least v                            the least node of v's part
+--   part_least v                           the least node of v's part
 --   part_least_both, part_least_min        it is one of v's tree, and the least
 --   part_least_first                       and the first of its own part
 --   part_number_same, part_number_root     parts have one number exactly if they have one root

@@ -1,10 +1,10 @@
 -- A graph without a path, read by its canonical barrier (document 000, section 2.1).
---   canonical_barrier_of         the canonical classes are a barrier
---   Classes v w, classes_of      a node and its mate: both reachable, one of them, or none, and their classes
---   Entry i c                    arc i leads from A into class c, an Xi
---   entry_one                    each Xi has one entry
---   find_entry, find_entry_lem        found by trial
---   path_entry                   a regular path to a node of an Xi goes over its entry
+--   canonical_barrier_of            the canonical classes are a barrier
+--   Classes v w, classes_of         a node and its mate: both reachable, one of them, or none, and their classes
+--   Entry i c                       arc i leads from A into class c, an Xi
+--   entry_one                       each Xi has one entry
+--   find_entry, find_entry_lem      found by trial
+--   path_entry                      a regular path to a node of an Xi goes over its entry
 use mathlib.Core.Path.{◌≡◌, refl, sym, ap, ◌∙◌}
 use mathlib.Core.Logic.{◌⊎◌, inl, inr, ⊎_elim}
 use mathlib.Core.Bool.{Bool, true, false}

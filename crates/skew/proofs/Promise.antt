@@ -1,7 +1,7 @@
 -- The promises of the theory, kept.
 --   reaches_by_paths     document 03's ReachesByPaths, for a well-formed graph
 --   path_or_barrier      document 03's PathOrBarrier, for a well-formed graph (document 000, theorem 2.2)
--- Beside them other crates cite, of a graph without a path: classes-of, entry-one and path-entry of Entries; fit-from-A, fit-from-X and exit-entry of
+-- Beside them other crates cite, of a graph without a path: classes_of, entry_one and path_entry of Entries; fit_from_A, fit_from_X and exit_entry of
 -- Classes (where an arc out of A or of an Xi may lead).
 use Rattle.skew.specs.Graph.{Graph}
 use Rattle.skew.specs.Paths.{WellFormed}

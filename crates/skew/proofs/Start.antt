@@ -1,5 +1,5 @@
 -- The state in which the source alone is reached has the invariant.
---   start_keeps                          every such state
+--   start_keeps                           every such state
 --   start_state, start_state_started      one such state
 use mathlib.Core.Path.{◌≡◌, refl, sym, ap, subst, ◌∙◌}
 use mathlib.Core.Logic.{◌⊎◌, inl, inr, ⊎_elim}

@@ -1,6 +1,6 @@
 -- Barriers as a type (document 000, section 2.1; document 01, "The barrier"): what `is_barrier` tests. Classes: 0 M, 1 A, 2 A', 3 and on the Xi.
---   classes_fit a b         an arc may lead from class a to class b
---   is_entry cs c x         the arc x leads from A into class c
+--   classes_fit a b        an arc may lead from class a to class b
+--   is_entry cs c x        the arc x leads from A into class c
 --   Barrier g cs           the classes cs are a barrier of g
 --   EntryArc g cs i c      arc i leads from A into class c, an Xi
 --   NodeClass g v          a node's canonical class, by whether it and its mate are reachable

@@ -1,11 +1,11 @@
 -- The buds of a state as a forest: a bud hangs on the bud that holds the tail of its base arc, where there is one. Its trees are the parts of X
 -- (document 000, section 2.1).
---   BothReached st v        v and its mate are reached: v lies in a bud
---   BudBase st b            the base of a bud
+--   BothReached st v         v and its mate are reached: v lies in a bud
+--   BudBase st b             the base of a bud
 --   entry_tail g st b        the tail of the base arc
 --   root_from, root g st b   the base of the bud at the root of b's tree
 --   root_of g st v           the same for a node
---   IsRoot g st b           the tail of the base arc lies in no bud
+--   IsRoot g st b            the tail of the base arc lies in no bud
 use Rattle.std.specs.Prelude.{◌≡◌, true, false, ℕ, zero, suc}
 use Rattle.counting.specs.Tests.{pick}
 use Rattle.skew.specs.Graph.{Graph, mate}

@@ -4,7 +4,7 @@
 --   IsBase st b            b is reached and its own base
 --   InFragment st b x      x has base b
 --   Plain st b             b's fragment is b and its mate alone
---   parent_base g st b      the base of the tail of via b
+--   parent_base g st b     the base of the tail of via b
 --   BaseArc g st b         via b leads to b from a fragment with an earlier base
 --   ReachedEnds g st i     the arc's tail and its head's mate are reached
 --   Earlier g st v         via v rests on nodes reached before v

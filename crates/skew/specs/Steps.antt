@@ -1,7 +1,7 @@
 -- The two steps of a search as relations between states (document 000, section 2.3), and the states that ask for no step.
 --   TreeStep g st e new                    arc e reaches its head, new as its mate is
 --   InUnion st C b x                       x has base b, or its base is one of C
---   reached_after st C b                    the nodes reached once a bud of b has absorbed the fragments of C
+--   reached_after st C b                   the nodes reached once a bud of b has absorbed the fragments of C
 --   BudStep st C b via new                 the fragments of C become part of the bud of b, and b's mate is reached; new labels via
 --   Absorbable g st C b via                what makes that step right: the labels give regular paths within the new bud
 --   Settled g st i                         within one bud, or a base arc, or the mate of one
