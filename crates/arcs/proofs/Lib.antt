@@ -1,3 +1,3 @@
 -- Laws, by subject.
---   Tables       the arc table as a list of arcs
+--   Tables       the ends of the arcs that are lent
 pub mod Tables

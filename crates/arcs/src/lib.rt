@@ -1,5 +1,7 @@
-// Graphs as a caller lends them: the arcs' tails and heads, two tables of bytes. Nodes and arcs go by their numbers.
-//   node       mates of nodes and arcs, bytes as indices
+// Graphs as a caller lends them. Nodes and arcs go by their numbers.
+//   graph      a graph that is lent
+//   node       mates of nodes and arcs
 #![tactic(auto)]
 
+pub mod graph;
 pub mod node;

@@ -8,14 +8,17 @@
 --   by_test                                     cases on a test, with its equation
 --   true_false                                  no test is both true and false
 --   same_or                                     two numbers are equal or not
+--   list_all_is                                 what the library's `all` answers is what document 03's does
 use mathlib.Core.Path.{◌≡◌, refl, sym}
 use mathlib.Core.Logic.{◌⊎◌, inl, inr, ◌≢◌}
 use mathlib.Core.Bool.{Bool, true, false, ◌&&◌, ◌||◌}
+use mathlib.Core.List.{List, [], ◌∷◌}
 use Prim.Native.Nat.{ℕ}
 use native.Mathlib.Omega.{arith}
 use lib.Dec.{eqb}
 use borrow.Author.Tests.{eqb-true, eqb-false}
-use Rattle.counting.specs.Tests.{pick}
+use Rattle.std.specs.List.{list_all}
+use Rattle.counting.specs.Tests.{pick, all}
 
 pub and_left : (a b : Bool) → (a && b) ≡ true → a ≡ true
 and_left true b e = refl
@@ -77,3 +80,8 @@ true_false {b = b} p q = let z : ◌≡◌ {A = ℕ} 0 1 = cc in absurd (omega a
 
 pub same_or : (x y : ℕ) → (x ≡ y) ⊎ (x ≢ y)
 same_or x y = by_test (eqb x y) (λ e. inl (eqb-true x y e)) (λ e. inr (eqb-false x y e))
+
+pub list_all_is : {A : Type 0} (f : A → Bool) (xs : List A) → list_all f xs ≡ all f xs
+unfolding all
+list_all_is f [] = refl
+list_all_is f (x ∷ xs) = rw (list_all_is f xs)

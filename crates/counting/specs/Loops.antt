@@ -1,17 +1,12 @@
 -- A list gone through in a loop, from its front to its end: what holds on the way.
 --   Next xs i x                             x stands at place i of xs, and what follows behind it
---   Judged f xs i                           the elements before place i passed: what is asked of all is what is asked from i on
 --   Mapped f was now i                      the elements before place i are as f says, by their places and what they were; the others are as they were
 --   Storing was at whole now next left      part of the whole is stored from `at` on: with what is left stored from `next` on, all of it is
-use Rattle.std.specs.Prelude.{◌≡◌, Bool, List, ◌∷◌, ℕ, ◌+◌, ◌≤◌, ◌<◌, length, get_or, drop}
+use Rattle.std.specs.Prelude.{◌≡◌, List, ◌∷◌, ℕ, ◌+◌, ◌≤◌, ◌<◌, length, get_or, drop}
 use Rattle.std.proofs.lemmas.List.Edits.{sets}
-use Rattle.counting.specs.Tests.{all}
 
 pub record Next {A : Type 0} (xs : List A) (i : ℕ) (x : A) : Type 0 where
   pub is : drop i xs ≡ x ∷ drop (i + 1) xs
-
-pub record Judged {A : Type 0} (f : A → Bool) (xs : List A) (i : ℕ) : Type 0 where
-  pub asks : all f xs ≡ all f (drop i xs)
 
 pub record Mapped (f : ℕ → ℕ → ℕ) (was now : List ℕ) (i : ℕ) : Type 0 where
   pub long : length now ≡ length was

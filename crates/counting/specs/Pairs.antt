@@ -8,10 +8,7 @@
 --   pairs_of n xs ys    the first n elements of both
 --   pair_named n x      both numbers of a pair are below n
 use Rattle.std.specs.Prelude.{Bool, ◌&&◌, List, [], ◌∷◌, ℕ, ltb, take}
-
-pub record Pair : Type 0 where
-  pub first : ℕ
-  pub second : ℕ
+use Rattle.counting.specs.declared.Pair.{Pair}
 
 abbrev pub pair : ℕ → ℕ → Pair
 pair a b = record { first = a; second = b }

@@ -9,7 +9,7 @@ use mathlib.Core.List.{List, [], ◌∷◌, ◌++◌, append_assoc, append-nil}
 use Prim.Native.Nat.{ℕ, suc}
 use lib.ListN.{length}
 use Rattle.formats.specs.Kinds.{barrier_end, barrier_kind, budget_end, budget_kind, class_kind, mark_kind, pair_kind, path_end, path_kind, plan_end, plan_kind, sheet_end, sheet_kind, step_kind}
-use Rattle.counting.specs.Pairs.{Pair}
+use Rattle.counting.specs.declared.Pair.{Pair}
 use Rattle.counting.specs.Tests.{all, among}
 use Rattle.frames.specs.EitherEnd.{is_plain_text}
 use Rattle.frames.specs.Frames.{lines_of, ends_whole, hex_bytes, frame_of4}

@@ -4,8 +4,10 @@
 --   basic_asked                                             and document 03's own for a graph, without 16
 --   lit_asked                                               past 11, a stock's questions of its pairs are those of the lit pairs against the fits
 --   graph_refusal, stock_refusal                            a refusal is 0 or one of the list's numbers: what holds of those holds of it
-use mathlib.Core.Path.{◌≡◌, refl}
-use mathlib.Core.Bool.{Bool, true}
+--   unless_no, unless_yes                                   one question's refusal, and that it was answered yes
+use mathlib.Core.Path.{◌≡◌, refl, sym}
+use mathlib.Core.Logic.{◌≢◌}
+use mathlib.Core.Bool.{Bool, true, false}
 use mathlib.Core.List.{List, [], ◌∷◌}
 use Prim.Native.Nat.{ℕ}
 use lib.Dec.{eqb, leb, ltb}
@@ -13,8 +15,9 @@ use lib.ListN.{length}
 use Rattle.formats.specs.Kinds.{class_kind}
 use Rattle.formats.specs.Limits.{fits_most, steps_most}
 use Rattle.counting.specs.Tests.{all}
-use Rattle.counting.specs.Pairs.{Pair, pair_named}
-use Rattle.frames.specs.Frames.{body_lines, pairs_in, graph_form, stock_form, path_form, barrier_form}
+use Rattle.counting.specs.Pairs.{pair_named}
+use Rattle.counting.specs.declared.Pair.{Pair}
+use Rattle.frames.specs.Frames.{unless, body_lines, pairs_in, graph_form, stock_form, path_form, barrier_form}
 use Rattle.frames.specs.Questions.{ask, first_no, numbers_are}
 use Rattle.frames.specs.Shape.{shape_questions}
 use Rattle.frames.proofs.Questions.{chain_first, or_first, refusal_is}
@@ -64,3 +67,12 @@ stock_refusal f p z h = rw (stock_asked f) (refusal_is p (stock_questions f) z h
 
 pub graph_refusal : (f : List ℕ) (p : ℕ → Bool) → p 0 ≡ true → numbers_are p (graph_questions f) ≡ true → p (graph_fault f) ≡ true
 graph_refusal f p z h = rw (graph_asked f) (refusal_is p (graph_questions f) z h)
+
+-- ONE QUESTION
+pub unless_no : {n m : ℕ} (z : Bool) → n ≡ unless z m → n ≢ 0 → (z ≡ false) × (n ≡ m)
+unless_no true e h = absurd (h e)
+unless_no false e h = (refl, e)
+
+pub unless_yes : {m : ℕ} (z : Bool) → m ≢ 0 → 0 ≡ unless z m → z ≡ true
+unless_yes true h e = refl
+unless_yes false h e = absurd (h (sym e))

@@ -3,43 +3,38 @@
 --   header_long, header_next       the header's numbers can be read, and the body
 --   GraphBody, graph_body          a graph past questions 2 to 7; questions 6 and 7 refuse
 --   body_read                      what was read is such a graph
---   graph_odd, graph_many          question 8 refuses
---   graph_room, graph_holds        its arcs can be stored, and asked
---   no_graph, graph_read           what is answered: a refusal before the arcs are stored, and the rest
---   graph_held                     where nothing is refused, the slices hold the file's graph
-use mathlib.Core.Path.{◌≡◌, refl, ap, subst, sym, ◌∙◌}
-use mathlib.Core.Logic.{◌≢◌}
-use mathlib.Core.Bool.{true, false, and-false}
-use mathlib.Core.List.{List, [], ◌∷◌}
-use Prim.Native.Nat.{ℕ, ◌*◌, ◌%◌, ◌≤◌, ◌<◌}
-use native.Mathlib.Omega.{arith}
-use lib.Dec.{eqb}
-use borrow.Author.Tests.{ne_eqb, eq-eqb, le-leb, lt-leb}
-use lib.ListN.{length, drop}
+--   graph_eight                    question 8
+--   graph_room                     its arcs can be stored
+--   graph_refused, graph_read      what is answered: a refusal before the arcs are stored, and the rest
+--   graph_held                     where nothing is refused, the slice holds the file's graph
+use Rattle.std.proofs.Common.{◌≡◌, ◌≢◌, refl, ap, subst, sym, ◌∙◌, List, [], ◌∷◌, map, ℕ, ◌*◌, ◌≤◌, arith, length, take, drop, ◌%◌, eqb}
+use borrow.Author.Tests.{leb-true}
 use Rattle.formats.specs.Kinds.{arc_kind}
 use Rattle.formats.specs.Limits.{arcs_most}
-use Rattle.counting.specs.Pairs.{Pair, pairs_of}
-use Rattle.frames.specs.Frames.{shape_fault, graph_form}
-use Rattle.frames.specs.Questions.{ask, first_no}
+use Rattle.counting.specs.declared.Pair.{Pair}
+use Rattle.counting.proofs.Booleans.{and_right}
+use Rattle.frames.specs.Frames.{unless, shape_fault, graph_form}
+use Rattle.frames.specs.Questions.{first_no, answered}
 use Rattle.frames.specs.Numbers.{NumberAt}
 use Rattle.frames.specs.Shape.{HeaderAnswer, BodyAnswer, Shaped}
-use Rattle.frames.specs.Stores.{run_at, Storable, PairsStored, StoredPairs}
-use Rattle.frames.proofs.Questions.{first_stop, first_go, first_none, answered_none, beside_same, beside_refused}
+use Rattle.frames.specs.declared.shape.TheConstants.{GRAPH}
+use Rattle.frames.specs.Stores.{run_at, Storable, StoredFirst, Stored}
+use Rattle.frames.proofs.Questions.{first_stop, first_go, first_none, answered_none, answered_refused}
 use Rattle.frames.proofs.HeaderFrames.{first_number, second_line}
 use Rattle.frames.proofs.ShapeFaults.{shape_header, shape_five, shape_body, sized_shape, sized_eight, read_shaped}
 use Rattle.frames.proofs.StoredBodies.{body_storable, only_size, only_pairs, only_count}
 use Rattle.frames.proofs.Stores.{stored_as}
-use Rattle.skew.specs.Graph.{Arc, arcs_of, nodes}
+use Rattle.skew.specs.Graph.{arc_of, arcs_of, nodes}
+use Rattle.skew.specs.declared.Arc.{Arc}
 use Rattle.skew.proofs.Arcs.{arcs_length}
-use Rattle.files.specs.Tables.{Holds}
 use Rattle.files.specs.GraphFile.{header_fits, arc_pairs, graph_in, graph_fault, numbers_fit, arcs_fit, graph_sized, arcs_questions}
-use Rattle.files.specs.Readers.{GraphTold, GraphHeld, GraphRead}
-use Rattle.files.proofs.Tables.{stored_all, all_pairs, no_pairs, back_holds, back_pairs}
-use Rattle.files.proofs.Asked.{graph_asked}
+use Rattle.files.specs.Readers.{GraphHeld, GraphRead}
+use Rattle.files.proofs.Tables.{stored_all, all_stored, none_stored, back_stored}
+use Rattle.files.proofs.Asked.{graph_asked, unless_no, unless_yes}
 
 -- THE HEADER
-pub record GraphBody (f : List ℕ) (next pairs source arcs firsts : ℕ) : Type 0 where
-  pub shaped : Shaped graph_form f next arcs firsts
+pub record GraphBody (f : List ℕ) (next pairs source count firsts : ℕ) : Type 0 where
+  pub shaped : Shaped graph_form f next count firsts
   pub none : shape_fault graph_form f (header_fits f) ≡ 0
   pub pairs_are : pairs ≡ (graph_in f).pairs
   pub source_is : source ≡ (graph_in f).source
@@ -68,12 +63,14 @@ module _ {f : List ℕ} {n next : ℕ} (h : HeaderAnswer graph_form f n next) wh
       fits_are : header_fits f ≡ numbers_fit p s
       fits_are = rw (pairs_read_lem, source_read)
 
-      pub graph_five : numbers_fit p s ≡ false → 5 ≡ first_no (graph_sized f)
-      graph_five e = sized (shape_five h (header_fits f) z (fits_are ∙ e)) (λ q. omega arith)
+      pub graph_five : {m : ℕ} → m ≡ unless (numbers_fit p s) 5 → m ≢ 0 → m ≡ first_no (graph_sized f)
+      graph_five e d =
+          let r = unless_no (numbers_fit p s) e d in
+          r.1 ∙ sized (shape_five h (header_fits f) z (fits_are ∙ r.0)) (λ q. omega arith)
 
-      module _ (e : numbers_fit p s ≡ true) {m count firsts : ℕ} (b : BodyAnswer graph_form (drop next f) m count firsts) where
+      module _ (e : 0 ≡ unless (numbers_fit p s) 5) {m count firsts : ℕ} (b : BodyAnswer graph_form (drop next f) m count firsts) where
         body_is : m ≡ shape_fault graph_form f (header_fits f)
-        body_is = shape_body h (header_fits f) z (fits_are ∙ e) b
+        body_is = shape_body h (header_fits f) z (fits_are ∙ unless_yes (numbers_fit p s) (λ q. omega arith) e) b
 
         pub graph_body : m ≢ 0 → m ≡ first_no (graph_sized f)
         graph_body d = sized body_is d
@@ -81,82 +78,81 @@ module _ {f : List ℕ} {n next : ℕ} (h : HeaderAnswer graph_form f n next) wh
         pub body_read : m ≡ 0 → GraphBody f next p s count firsts
         body_read o =
             record {
-              shaped = read_shaped arc_kind arc_kind refl h z b o;
+              shaped = read_shaped GRAPH h z b o;
               none = sym body_is ∙ o;
               pairs_are = pairs_read_lem;
               source_is = source_read;
             }
 
 -- THE ANSWERS
-pub no_graph : {f ts hs : List ℕ} {k number pairs source arcs : ℕ} → k ≡ first_no (graph_sized f) → k ≢ 0 →
-    GraphTold k 0 0 0 number pairs source arcs → GraphRead f ts hs ts hs number pairs source arcs
-no_graph {f} {ts} {hs} e h t =
+pub graph_refused : {f : List ℕ} {xs : List Arc} {k : ℕ} → k ≡ first_no (graph_sized f) → k ≢ 0 → GraphRead f xs xs k 0 0 0
+unfolding arcs_of
+graph_refused {f} {xs} e h =
     let d : first_no (graph_sized f) ≢ 0 = λ q. h (e ∙ q) in
     record {
-      says = t.0 ∙ e ∙ sym (graph_asked f ∙ first_stop (graph_sized f) (arcs_questions (nodes (graph_in f)) (graph_in f).arcs) d);
-      pairs_are = beside_refused 0 (graph_in f).pairs h t.0 t.1;
-      source_is = beside_refused 0 (graph_in f).source h t.0 t.2;
-      arcs_are = beside_refused 0 (length (graph_in f).arcs) h t.0 t.3;
-      stores = no_pairs (graph_sized f) (arc_pairs f) ts hs d;
+      says = e ∙ sym (graph_asked f ∙ first_stop (graph_sized f) (arcs_questions (nodes (graph_in f)) (graph_in f).arcs) d);
+      pairs_are = sym (answered_refused (graph_in f).pairs h);
+      source_is = sym (answered_refused (graph_in f).source h);
+      arcs_are = sym (answered_refused (length (graph_in f).arcs) h);
+      stores = none_stored arcs_of (graph_sized f) (arc_pairs f) xs refl d;
     }
 
+map_arcs : (xs : List Pair) → map arc_of xs ≡ arcs_of xs
+unfolding arcs_of
+map_arcs [] = refl
+map_arcs (x ∷ xs) = ap (λ (ys : List Arc). arc_of x ∷ ys) (map_arcs xs)
+
 module _ {f : List ℕ} {next p s count firsts : ℕ} (g : GraphBody f next p s count firsts) where
-  pairs_count : length (arc_pairs f) ≡ count
-  pairs_count = only_count g.shaped arc_kind refl refl (λ q. omega arith)
-
   count_is : length (graph_in f).arcs ≡ count
-  count_is = arcs_length (arc_pairs f) ∙ pairs_count
+  count_is = arcs_length (arc_pairs f) ∙ only_count g.shaped arc_kind refl refl (λ q. omega arith)
 
-  eight : first_no (graph_sized f) ≡ first_no (ask 8 (arcs_fit (length (graph_in f).arcs)) ∷ [])
-  eight = sized_eight graph_form f (header_fits f) (arcs_fit (length (graph_in f).arcs)) g.none
+  pub graph_eight : first_no (graph_sized f) ≡ unless (arcs_fit count) 8
+  graph_eight =
+      sized_eight graph_form f (header_fits f) (arcs_fit (length (graph_in f).arcs)) g.none ∙
+      ap (λ (i : ℕ). unless (arcs_fit i) 8) count_is
 
-  pub graph_odd : count % 2 ≢ 0 → 8 ≡ first_no (graph_sized f)
-  graph_odd d = sym (eight ∙ rw (count_is, ne_eqb _ _ d))
-
-  pub graph_many : arcs_most < count → 8 ≡ first_no (graph_sized f)
-  graph_many k = sym (eight ∙ rw (count_is, lt-leb _ _ k, and-false (eqb (count % 2) 0)))
-
-  pub graph_room : {ts hs : List ℕ} → count ≤ arcs_most → Holds arcs_most ts hs →
-      Storable f next × (length (run_at arc_kind f next) ≤ length ts) × (length (run_at arc_kind f next) ≤ length hs)
-  graph_room few r =
+  pub graph_room : (xs : List Arc) → 0 ≡ unless (arcs_fit count) 8 → arcs_most ≤ length xs → Storable f next × (length (run_at arc_kind f next) ≤ length xs)
+  graph_room xs fit r =
+      let few = leb-true count arcs_most (and_right (eqb (count % 2) 0) _ (unless_yes (arcs_fit count) (λ q. omega arith) fit)) in
       let n = only_size g.shaped arc_kind refl refl (λ q. omega arith) in
-      (body_storable g.shaped (omega arith), omega (arith, n, r), omega (arith, n, r))
+      (body_storable g.shaped (omega arith), omega (arith, n))
 
-  module _ {ts hs us vs : List ℕ} {n turn : ℕ} (st : StoredPairs arc_kind f next ts hs us vs n turn) where
-    arcs_here : (n ≡ length (arc_pairs f)) × PairsStored (arc_pairs f) ts hs us vs
-    arcs_here = stored_as (arc_pairs f) st (only_pairs g.shaped arc_kind refl refl (λ q. omega arith))
+  module _ {xs ys : List Arc} {n turn : ℕ} (st : Stored arc_of arc_kind f next xs ys n turn) where
+    arcs_here : StoredFirst (graph_in f).arcs xs ys
+    arcs_here =
+        (stored_as st (graph_in f).arcs
+        (ap (λ (ps : List Pair). map arc_of ps) (only_pairs g.shaped arc_kind refl refl (λ q. omega arith)) ∙ map_arcs (arc_pairs f))).1
 
-    pub graph_holds : Holds count us vs
-    graph_holds = back_holds (arc_pairs f) (sym pairs_count) arcs_here.1
+    graph_holds : (count ≤ length ys) × (take count ys ≡ (graph_in f).arcs)
+    graph_holds = back_stored (sym count_is) arcs_here
 
-    arcs_back : arcs_of (pairs_of count us vs) ≡ (graph_in f).arcs
-    arcs_back = ap arcs_of (back_pairs (arc_pairs f) (sym pairs_count) arcs_here.1)
-
-    pub graph_read : {k number pairs source arcs : ℕ} → count % 2 ≡ 0 → count ≤ arcs_most → k ≡ first_no (arcs_questions (2 * p) (arcs_of (pairs_of count us vs))) →
-        GraphTold k p s count number pairs source arcs → GraphRead f ts hs us vs number pairs source arcs
-    graph_read even few q t =
-        let none : first_no (graph_sized f) ≡ 0 = eight ∙ rw (count_is, eq-eqb _ _ even, le-leb _ _ few) in
-        let later = ap (λ (xs : List Arc). first_no (arcs_questions (2 * p) xs)) arcs_back ∙ ap (λ (i : ℕ). first_no (arcs_questions (2 * i) (graph_in f).arcs)) g.pairs_are in
+    pub graph_read : {k : ℕ} → 0 ≡ unless (arcs_fit count) 8 → k ≡ first_no (arcs_questions (2 * p) (take count ys)) →
+        GraphRead f xs ys k (answered k p) (answered k s) (answered k count)
+    graph_read {k} fit q =
+        let none : first_no (graph_sized f) ≡ 0 = graph_eight ∙ sym fit in
+        let later : first_no (arcs_questions (2 * p) (take count ys)) ≡ first_no (arcs_questions (nodes (graph_in f)) (graph_in f).arcs) =
+        rw (graph_holds.1, g.pairs_are) in
         record {
           says =
-              t.0 ∙ q ∙ later ∙
+              q ∙ later ∙
               sym (graph_asked f ∙ first_go (graph_sized f) (arcs_questions (nodes (graph_in f)) (graph_in f).arcs) refl none);
-          pairs_are = beside_same t.0 t.1 g.pairs_are;
-          source_is = beside_same t.0 t.2 g.source_is;
-          arcs_are = beside_same t.0 t.3 (sym count_is);
-          stores = all_pairs (graph_sized f) (arc_pairs f) none arcs_here.1;
+          pairs_are = ap (answered k) g.pairs_are;
+          source_is = ap (answered k) g.source_is;
+          arcs_are = ap (answered k) (sym count_is);
+          stores = all_stored arcs_of (graph_sized f) (arc_pairs f) none arcs_here;
         }
 
 -- WHERE NOTHING IS REFUSED
-pub graph_held : {f ts hs us vs : List ℕ} {n p s a : ℕ} → GraphRead f ts hs us vs n p s a → n ≡ 0 → GraphHeld f us vs p s a
-graph_held {f} {ts} {hs} {us} {vs} r e =
+pub graph_held : {f : List ℕ} {xs ys : List Arc} {n p s a : ℕ} → GraphRead f xs ys n p s a → n ≡ 0 → GraphHeld f ys p s a
+graph_held {f} {xs} {ys} r e =
     let fault : graph_fault f ≡ 0 = sym r.says ∙ e in
     let none = (first_none (graph_sized f) (arcs_questions (nodes (graph_in f)) (graph_in f).arcs) refl (sym (graph_asked f) ∙ fault)).0 in
-    let p = subst (λ (xs : List Pair). PairsStored xs ts hs us vs) (stored_all (graph_sized f) (arc_pairs f) none) r.stores in
-    let c = r.arcs_are ∙ answered_none _ e ∙ arcs_length (arc_pairs f) in
+    let back =
+    back_stored (r.arcs_are ∙ answered_none _ e)
+    (subst (λ (us : List Arc). StoredFirst us xs ys) (stored_all arcs_of (graph_sized f) (arc_pairs f) none) r.stores) in
     record {
       pairs_are = r.pairs_are ∙ answered_none _ e;
       source_is = r.source_is ∙ answered_none _ e;
-      room = back_holds (arc_pairs f) c p;
-      arcs_are = ap arcs_of (back_pairs (arc_pairs f) c p);
+      room = back.0;
+      arcs_are = back.1;
     }

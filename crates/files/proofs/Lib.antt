@@ -1,7 +1,7 @@
 -- Laws by subject; each file stands on those above it.
---   Tables           pairs that stand in two slices
---   PairScans        questions 9 of a barrier and 10 to 13 put to such pairs from the front
---   SharedCameras    question 14, with a table of marks
+--   Tables           what the questions let a reader store, and what is read back
+--   PairScans        questions 9 to 13 put to pairs and arcs by the library's chains
+--   SharedCameras    question 14, with a table of flags
 --   AnswerLines      answers written line by line
 --   AnswerEnds       an answer is whole lines, each ended by a line feed alone
 --   Asked            the chains of questions, as lists

@@ -1,159 +1,175 @@
--- Questions put to pairs that stand in two slices, one pair after the other: what is asked of all pairs is what is asked from a place on. What is
--- asked of each pair alone is counting's Judged.
---   arcs_named                      question 9 of arcs is that of their pairs
---   mates_, rise_, look_, order_    by question (10, 11 and 12, the look-up of 13, 9 of a barrier)
---   _next                           the pair at the place passes, so that what is asked goes on behind it
---   _fails                          it does not: rise_fails_pair, _order; mates_fails_tail, _head; order_fails_name, _class; look_fails
---   Looking n us vs y i             the pair y is looked up, and the pairs before i are passed
---   look_start, look_settled        none is; the pair at the place settles the look-up
---   _last, _end                     it is the last one, or there is none left
-use mathlib.Core.Path.{◌≡◌, refl, sym, ◌∙◌}
-use mathlib.Core.Logic.{inl, inr, ⊎_elim}
-use mathlib.Core.Bool.{true, false, and-false}
-use mathlib.Core.List.{List, [], ◌∷◌}
-use Prim.Native.Nat.{ℕ, suc, ◌+◌, ◌≤◌, ◌<◌}
-use native.Mathlib.Omega.{arith}
-use native.Mathlib.Numerals.{add-one}
-use native.Mathlib.Nat.{eq-or-lt_of_le}
-use lib.Dec.{eqb, ltb}
-use borrow.Author.Tests.{eq-eqb, ne_eqb, lt-ltb, le-ltb, le-leb, lt-leb}
-use lib.ListN.{get_or, drop}
-use Rattle.formats.specs.Limits.{class_most}
+-- Questions put to pairs and arcs, as the library's chains put them.
+--   all_of                      what a chain's `all` answers
+--   yields_twos, yields_neighbours      the chunks of two elements of a slice; each two that stand side by side
+--   both d f w                  what f says of two elements
+--   mates_twos                  question 10, put to chunks of two
+--   rise_neighbours             questions 11 and 12, put to each pair, and to each two side by side
+--   order_places                question 9 of a barrier, put to each line with its place
+--   look_found, look_none       what the look-up answers, at the first fit that is not smaller or where there is none
+use Rattle.std.proofs.Common.{◌≡◌, ◌⊎◌, inl, inr, refl, sym, ap, subst, ◌∙◌, Bool, true, false, not, Option, Some, None, List, [], ◌∷◌, ◌++◌, ℕ, suc, ◌+◌, ◌<◌, arith, length, get_or, ltb, leb, eqb, position, ◌&&◌, add-one, length-append, Bor}
+use Rattle.std.specs.List.{position_or_len, enumerate_from}
+use Rattle.std.specs.Iterator.{AlwaysYields}
+use Rattle.std.specs.Slice.Iter.{chunks_exact_rest, chunks_exact_size, chunks_exact_steps, windows_rest, windows_size, windows_steps}
+use Rattle.std.specs.declared.slice.ChunksExact.{ChunksExact}
+use Rattle.std.specs.declared.slice.Windows.{Windows}
+use Rattle.std.specs.Fn.{Called}
+use Rattle.std.specs.Iterator.{YieldsThen}
+use Rattle.std.specs.List.{FoldsTo}
+use Rattle.std.specs.Option.{MatchOption}
+use denote.Param.Members.{Mut}
+use Rattle.std.proofs.lemmas.Iterator.{YieldsList}
+use Rattle.std.proofs.lemmas.Iterator.Search.{all_from_yields_List}
 use Rattle.counting.specs.Tests.{all}
-use Rattle.counting.specs.Pairs.{Pair, pair, pairs_of, pair_named}
-use Rattle.skew.specs.Graph.{arcs_of, mate, mates_fit}
-use Rattle.skew.proofs.Arcs.{all_arcs}
-use Rattle.matching.specs.Stock.{same_pair, has_pair, pair_before, pairs_rise}
-use Rattle.matching.specs.Pairs.{Before}
-use Rattle.matching.specs.LookUp.{looked_at, looked, is_found, EqualOrLarger, LookedUp}
-use Rattle.matching.proofs.Pairs.{same_pair_lem}
-use Rattle.matching.proofs.LookUp.{looked_step, looked_stop, found_step, found_stop}
-use Rattle.files.specs.Tables.{Holds}
-use Rattle.files.specs.GraphFile.{ends_named}
+use Rattle.counting.proofs.Booleans.{list_all_is}
+use Rattle.std.proofs.lemmas.List.Sums.{fails_before_first}
+use Rattle.std.proofs.lemmas.List.Quantifiers.{position-Some}
+use mathlib.Core.Bool.{and-false, and-true}
+use borrow.Author.Tests.{not-true, ltb-false}
+use Rattle.formats.specs.Limits.{class_most}
+use Rattle.counting.specs.Pairs.{no_pair}
+use Rattle.counting.specs.declared.Pair.{Pair}
+use Rattle.counting.proofs.Booleans.{by_test, test_same}
+use Rattle.counting.proofs.Membership.{in_get_d}
+use Rattle.skew.specs.Graph.{no_arc, are_mates, mates_fit}
+use Rattle.skew.specs.declared.Arc.{Arc}
+use Rattle.matching.specs.Stock.{same_pair, pair_before, pairs_rise}
 use Rattle.files.specs.CertificateFile.{names_in_order}
-use Rattle.files.proofs.Tables.{pairs_next, pairs_none}
+use Rattle.matching.specs.Pairs.{Before}
+use Rattle.matching.specs.LookUp.{is_found, looked, LookedUp}
+use Rattle.matching.proofs.Pairs.{same_is, is_same}
+use Rattle.matching.proofs.Rising.{before_is, not_before, before_not}
+use Rattle.matching.proofs.LookUp.{look_counts, found_last}
 
-rise_false : (x : Pair) (ys : List Pair) → ltb x.first x.second ≡ false → pairs_rise (x ∷ ys) ≡ false
-unfolding pairs_rise
-rise_false x [] e = e
-rise_false x (y ∷ ys) e = rw e
+-- A CHAIN that asks each of its items, where the items are those of ys
+pub all_of : {S A B F : Type 0} {steps : S → Option A → S → Type 0} {v : A → B} {g : Mut F (A × Unit {0}) Bool} {s u : S} {f : F} {r : Bool} {ys : List B} (test : B → Bool) →
+    YieldsList steps v s ys →
+    (xs : List A) × (o : Option A) × (j : F) × YieldsThen steps s xs o u × FoldsTo (λ p x q. Called g p (x, tt) true q) f xs j ×
+    MatchOption o (r ≡ true) (λ x. (r ≡ false) × ((h : F) × Called g j (x, tt) false h)) →
+    ((x : A) (b : Bool) (q : F) → Called g f (x, tt) b q → (q ≡ f) × (b ≡ test (v x))) → r ≡ all test ys
+all_of {ys = ys} test y ran each = all_from_yields_List test _ _ _ ran y each ∙ list_all_is test ys
 
-pub arcs_named : (n : ℕ) (xs : List Pair) → all (ends_named n) (arcs_of xs) ≡ all (pair_named n) xs
-arcs_named n xs = all_arcs (ends_named n) xs
+-- CHUNKS OF TWO, and neighbours
+abbrev twos : {A : Type 0} → List A → List (List A)
+twos [] = []
+twos (x ∷ []) = []
+twos (x ∷ y ∷ rest) = (x ∷ y ∷ []) ∷ twos rest
 
-module _ {n : ℕ} {us vs : List ℕ} (r : Holds n us vs) (i : ℕ) where
-  abbrev from : ℕ → List Pair
-  from j = drop j (pairs_of n us vs)
+abbrev neighbours : {A : Type 0} → List A → List (List A)
+neighbours [] = []
+neighbours (x ∷ []) = []
+neighbours (x ∷ y ∷ rest) = (x ∷ y ∷ []) ∷ neighbours (y ∷ rest)
 
-  -- PAST THE LAST
-  pub mates_end : n ≤ i → mates_fit (arcs_of (from i)) ≡ true
-  unfolding mates_fit arcs_of
-  mates_end h = rw (pairs_none r i h)
+module _ {A : Type 0} where
+  two_first : (x y : A) (rest ws zs : List A) → x ∷ y ∷ rest ≡ ws ++ zs → length ws ≡ 2 → (ws ≡ x ∷ y ∷ []) × (zs ≡ rest)
+  two_first x y rest [] zs e n = absurd (omega arith)
+  two_first x y rest (a ∷ []) zs e n = absurd (omega arith)
+  two_first x y rest (a ∷ b ∷ []) zs e n = (cc, cc)
+  two_first x y rest (a ∷ b ∷ c ∷ ws) zs e n = absurd (omega arith)
 
-  pub rise_end : n ≤ i → pairs_rise (from i) ≡ true
-  unfolding pairs_rise
-  rise_end h = rw (pairs_none r i h)
+  twos_given : (s : ChunksExact A) (xs : List A) → chunks_exact_rest s ≡ xs → chunks_exact_size s ≡ 2 →
+      AlwaysYields chunks_exact_steps (λ (w : Bor (List A)). w.now) s (twos xs)
+  twos_given s [] e n = λ w j p. omega (arith, ap length e, ap length p.1.0, length-append w.now (chunks_exact_rest j), p.1.1)
+  twos_given s (x ∷ []) e n = λ w j p. omega (arith, ap length e, ap length p.1.0, length-append w.now (chunks_exact_rest j), p.1.1)
+  twos_given s (x ∷ y ∷ rest) e n = (
+    λ j p. omega (arith, ap length e, p.1.0),
+    λ w j p.
+        let r = two_first x y rest w.now (chunks_exact_rest j) (sym e ∙ p.1.0) (p.1.1 ∙ n) in
+        (r.0, twos_given j rest r.1 (p.0 ∙ n)),
+  )
 
-  pub order_end : n ≤ i → names_in_order i (from i) ≡ true
-  unfolding names_in_order
-  order_end h = rw (pairs_none r i h)
+  neighbours_given : (s : Windows A) (xs : List A) → windows_rest s ≡ xs → windows_size s ≡ 2 →
+      AlwaysYields windows_steps (λ (w : Bor (List A)). w.now) s (neighbours xs)
+  neighbours_given s [] e n = λ w j p. omega (arith, ap length e, p.1.0)
+  neighbours_given s (x ∷ []) e n = λ w j p. omega (arith, ap length e, p.1.0)
+  neighbours_given s (x ∷ y ∷ rest) e n = (
+    λ j p. omega (arith, ap length e, p.1.0),
+    λ w j p. (rw (n, e) at p.1.1, neighbours_given j (y ∷ rest) (rw e at p.1.2) (p.0 ∙ n)),
+  )
 
-  -- THE PAIR AT A PLACE
-  module _ (h : i < n) where
-    abbrev x : Pair
-    x = pair (get_or us i 0) (get_or vs i 0)
+  pub yields_twos : {s : ChunksExact A} (xs : List A) → chunks_exact_rest s ≡ xs → chunks_exact_size s ≡ 2 →
+      YieldsList chunks_exact_steps (λ (w : Bor (List A)). w.now) s (twos xs)
+  yields_twos {s} xs e n = record { runs = twos_given s xs e n }
 
-    pub order_next : get_or us i 0 ≡ i → get_or vs i 0 ≤ class_most → names_in_order i (from i) ≡ names_in_order (i + 1) (from (i + 1))
-    unfolding names_in_order
-    order_next p q = rw ((pairs_next r i h).is, eq-eqb _ _ p, le-leb _ _ q, add-one)
+  pub yields_neighbours : {s : Windows A} (xs : List A) → windows_rest s ≡ xs → windows_size s ≡ 2 →
+      YieldsList windows_steps (λ (w : Bor (List A)). w.now) s (neighbours xs)
+  yields_neighbours {s} xs e n = record { runs = neighbours_given s xs e n }
 
-    pub order_fails_name : (get_or us i 0 ≡ i → ⊥) → names_in_order i (from i) ≡ false
-    unfolding names_in_order
-    order_fails_name p = rw ((pairs_next r i h).is, ne_eqb _ _ p)
+-- what is asked of two, one beside the other
+abbrev pub both : {A : Type 0} (d : A) → (A → A → Bool) → List A → Bool
+both d f w = f (get_or w 0 d) (get_or w 1 d)
 
-    pub order_fails_class : class_most < get_or vs i 0 → names_in_order i (from i) ≡ false
-    unfolding names_in_order
-    order_fails_class p = rw ((pairs_next r i h).is, lt-leb _ _ p, and-false (eqb (get_or us i 0) i))
+pub mates_twos : (xs : List Arc) → all (both no_arc are_mates) (twos xs) ≡ mates_fit xs
+unfolding mates_fit all
+mates_twos [] = refl
+mates_twos (x ∷ []) = refl
+mates_twos (x ∷ y ∷ rest) = ap (λ (b : Bool). are_mates x y && b) (mates_twos rest)
 
-    pub rise_fails_pair : get_or vs i 0 ≤ get_or us i 0 → pairs_rise (from i) ≡ false
-    rise_fails_pair p = rw (pairs_next r i h).is (rise_false x (from (i + 1)) (le-ltb _ _ p))
+and_across : (a b c d : Bool) → ((a && b) && (c && d)) ≡ (a && c && (b && d))
+and_across false b c d = refl
+and_across true b true d = refl
+and_across true b false d = and-false b
 
-    pub rise_last : i + 1 ≡ n → get_or us i 0 < get_or vs i 0 → pairs_rise (from i) ≡ true
-    unfolding pairs_rise
-    rise_last e p = rw ((pairs_next r i h).is, pairs_none r (i + 1) (omega arith)) (lt-ltb _ _ p)
+pub rise_neighbours : (xs : List Pair) →
+    (all (λ (x : Pair). ltb x.first x.second) xs && all (both no_pair pair_before) (neighbours xs)) ≡ pairs_rise xs
+unfolding pairs_rise all
+rise_neighbours [] = refl
+rise_neighbours (x ∷ []) = simp and-true
+rise_neighbours (x ∷ y ∷ rest) =
+    and_across (ltb x.first x.second) (all (λ (z : Pair). ltb z.first z.second) (y ∷ rest)) (pair_before x y)
+    (all (both no_pair pair_before) (neighbours (y ∷ rest))) ∙
+    ap (λ (b : Bool). ltb x.first x.second && pair_before x y && b) (rise_neighbours (y ∷ rest))
 
-    pub mates_last : i + 1 ≡ n → mates_fit (arcs_of (from i)) ≡ true
-    unfolding mates_fit arcs_of
-    mates_last e = rw ((pairs_next r i h).is, pairs_none r (i + 1) (omega arith))
-
-  -- THE PAIR AT A PLACE AND THE NEXT
-  module _ (h : i + 1 < n) where
-    abbrev one : Pair
-    one = pair (get_or us i 0) (get_or vs i 0)
-
-    abbrev two : Pair
-    two = pair (get_or us (i + 1) 0) (get_or vs (i + 1) 0)
-
-    from_two : from i ≡ one ∷ two ∷ from (i + 2)
-    from_two =
-        let e : i + 1 + 1 ≡ i + 2 = omega arith in
-        (pairs_next r i (omega arith)).is ∙ rw ((pairs_next r (i + 1) h).is, e)
-
-    pub rise_next : get_or us i 0 < get_or vs i 0 → pair_before one two ≡ true → pairs_rise (from i) ≡ pairs_rise (from (i + 1))
-    unfolding pairs_rise
-    rise_next p e = rw (from_two, lt-ltb _ _ p, e, (pairs_next r (i + 1) h).is) (let k : i + 1 + 1 ≡ i + 2 = omega arith in rw k)
-
-    pub rise_fails_order : get_or us i 0 < get_or vs i 0 → pair_before one two ≡ false → pairs_rise (from i) ≡ false
-    unfolding pairs_rise
-    rise_fails_order p e = rw (from_two, lt-ltb _ _ p, e)
-
-    pub mates_next : get_or us (i + 1) 0 ≡ mate (get_or vs i 0) → get_or vs (i + 1) 0 ≡ mate (get_or us i 0) → mates_fit (arcs_of (from i)) ≡ mates_fit (arcs_of (from (i + 2)))
-    unfolding mates_fit arcs_of
-    mates_next p q = rw (from_two, eq-eqb _ _ p, eq-eqb _ _ q)
-
-    pub mates_fails_tail : (get_or us (i + 1) 0 ≡ mate (get_or vs i 0) → ⊥) → mates_fit (arcs_of (from i)) ≡ false
-    unfolding mates_fit arcs_of
-    mates_fails_tail p = rw (from_two, ne_eqb _ _ p)
-
-    pub mates_fails_head : (get_or vs (i + 1) 0 ≡ mate (get_or us i 0) → ⊥) → mates_fit (arcs_of (from i)) ≡ false
-    unfolding mates_fit arcs_of
-    mates_fails_head p = rw (from_two, ne_eqb _ _ p, and-false (eqb (get_or us (i + 1) 0) (mate (get_or vs i 0))))
+pub order_places : (i : ℕ) (xs : List Pair) → all (λ (p : ℕ × Pair). eqb p.1.first p.0 && leb p.1.second class_most) (enumerate_from i xs) ≡ names_in_order i xs
+unfolding names_in_order all
+order_places i [] = refl
+order_places i (x ∷ xs) = rw add-one (ap (λ (b : Bool). eqb x.first i && leb x.second class_most && b) (order_places (suc i) xs))
 
 -- A PAIR LOOKED UP
-pub record Looking (n : ℕ) (us vs : List ℕ) (y : Pair) (i : ℕ) : Type 0 where
-  pub within : i ≤ n
-  pub finds : is_found (pairs_of n us vs) y ≡ is_found (drop i (pairs_of n us vs)) y
-  pub passes : looked (pairs_of n us vs) y ≡ i + looked (drop i (pairs_of n us vs)) y
+module _ (fs : List Pair) (x : Pair) where
+  abbrev ends : Pair → Bool
+  ends y = not (pair_before y x)
 
-pub look_start : (n : ℕ) (us vs : List ℕ) (y : Pair) → Looking n us vs y 0
-look_start n us vs y = record { within = omega arith; finds = refl; passes = omega arith }
+  passed : (y : Pair) → ends y ≡ false → Before y x
+  passed y e = by_test (pair_before y x) (λ t. before_is y x t) (λ t. let z : true ≡ false = rw t at e in absurd (cc))
 
-module _ {n : ℕ} {us vs : List ℕ} {y : Pair} {i : ℕ} (r : Holds n us vs) (L : Looking n us vs y i) where
-  pub look_end : n ≤ i → LookedUp (pairs_of n us vs) y false n
-  unfolding looked_at has_pair
-  look_end h =
-      let e = pairs_none r i h in
-      record { answer = sym (L.finds ∙ rw e); number = let z : looked (drop i (pairs_of n us vs)) y ≡ 0 = rw e in omega (arith, L) }
+  ended : (y : Pair) → ends y ≡ true → (y ≡ x) ⊎ Before x y
+  ended y e = not_before y x (not-true (pair_before y x) e)
 
-  module _ (h : i < n) where
-    abbrev here : Pair
-    here = pair (get_or us i 0) (get_or vs i 0)
+  pub look_found : (i : ℕ) {found : Bool} → position ends fs ≡ Some i → found ≡ same_pair (get_or fs i no_pair) x → LookedUp fs x found (i + 1)
+  look_found i e q =
+      let r = position-Some ends fs i no_pair e in
+      let y = get_or fs i no_pair in
+      let n : looked fs x ≡ suc i =
+      (look_counts fs x (suc i)).1 (inl (i, refl, record { below = r.0; here = ended y r.1; passed = λ j h. passed (get_or fs j no_pair) (r.2 j h) })) in
+      record {
+        answer =
+            q ∙
+            test_same (same_pair y x) (is_found fs x) (λ t. (found_last fs x).1 (i, n, same_is y x t))
+            (λ t.
+            let l = (found_last fs x).0 t in
+            let k : l.0 ≡ i = omega (arith, l.1, n) in
+            is_same y x (subst (λ (j : ℕ). get_or fs j no_pair ≡ x) k l.2));
+        number = omega (arith, n);
+      }
 
-    pub look_next : Before here y → Looking n us vs y (i + 1)
-    look_next b =
-        let rest = drop (i + 1) (pairs_of n us vs) in
-        let s : looked (drop i (pairs_of n us vs)) y ≡ suc (looked rest y) = rw (pairs_next r i h).is (looked_step here rest y b) in
-        record { within = omega arith; finds = L.finds ∙ rw (pairs_next r i h).is (found_step here rest y b); passes = omega (arith, L.passes) }
+  none_ends : position ends fs ≡ None → (k : ℕ) → k < length fs → ends (get_or fs k no_pair) ≡ false
+  none_ends e k h =
+      by_test (ltb (position_or_len ends fs) (length fs))
+      (λ t. let z : Some (position_or_len ends fs) ≡ None = rw t at e in absurd (cc))
+      (λ t. let l = ltb-false _ _ t in fails_before_first ends fs k no_pair (omega arith))
 
-    look_stop : EqualOrLarger here y → LookedUp (pairs_of n us vs) y (same_pair y here) (i + 1)
-    look_stop l =
-        let rest = drop (i + 1) (pairs_of n us vs) in
-        let s : looked (drop i (pairs_of n us vs)) y ≡ 1 = rw (pairs_next r i h).is (looked_stop here rest y l) in
-        record { answer = sym (L.finds ∙ rw (pairs_next r i h).is (found_stop here rest y l)); number = omega (arith, L.passes) }
-
-    pub look_fails : y.first ≤ get_or us i 0 → (y.first ≡ get_or us i 0 → ⊥) → LookedUp (pairs_of n us vs) y false (i + 1)
-    look_fails p q = rw (ne_eqb _ _ q) at (look_stop (inr (inl (⊎_elim (λ e. absurd (q e)) (λ l. l) (eq-or-lt_of_le p)))))
-
-    pub look_settled : y.first ≡ get_or us i 0 → y.second ≤ get_or vs i 0 → LookedUp (pairs_of n us vs) y (eqb y.second (get_or vs i 0)) (i + 1)
-    look_settled p q =
-        rw (eq-eqb _ _ p) at (look_stop (⊎_elim (λ e. inl (same_pair_lem here y (sym p) (sym e))) (λ l. inr (inr (p, l))) (eq-or-lt_of_le q)))
+  pub look_none : position ends fs ≡ None → LookedUp fs x false (length fs)
+  look_none e =
+      let all_pass = λ (k : ℕ) (h : k < length fs). passed (get_or fs k no_pair) (none_ends e k h) in
+      let n : looked fs x ≡ length fs =
+      (look_counts fs x (length fs)).1 (inr (refl, λ y m. let g = in_get_d y fs no_pair m in subst (λ (z : Pair). Before z x) g.2 (all_pass g.0 g.1))) in
+      record {
+        answer =
+            by_test (is_found fs x)
+            (λ t.
+            let l = (found_last fs x).0 t in
+            let b : Before x x = subst (λ (z : Pair). Before z x) l.2 (all_pass l.0 (omega (arith, l.1, n))) in
+            absurd (before_not x x b b))
+            (λ t. sym t);
+        number = sym n;
+      }

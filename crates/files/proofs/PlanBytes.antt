@@ -13,7 +13,7 @@ use lib.ListN.{length, length-append}
 use lib.Seq.{take-append_seam, get_or-append_seam}
 use Rattle.formats.specs.Kinds.{pair_kind, plan_end, plan_kind}
 use Rattle.counting.specs.Lists.{In}
-use Rattle.counting.specs.Pairs.{Pair}
+use Rattle.counting.specs.declared.Pair.{Pair}
 use Rattle.frames.specs.Frames.{lines_of, hex_from, hex_at, first_line, last_line, body_lines, pairs_in, hex_bytes, frame_of4}
 use Rattle.frames.proofs.Writes.{two_value}
 use Rattle.frames.proofs.EitherEnd.{frame4_line, frame6_line, frame_of4_line}

@@ -1,8 +1,9 @@
 -- The questions of a plan file, one after the other, and of a plan as it is written.
---   plan_shape_lem, plan_seven           a plan refused by 2 to 7, before anything is stored
+--   plan_refused                         what is answered to a plan refused before anything is stored
+--   plan_shape_lem, plan_seven           questions 2 to 7, the last also of the header's number
 --   plan_long                            the header's number can be read
 --   plan_room, plan_holds, plan_read     its pairs can be stored, and asked; what is answered then
---   plan_held                            where nothing is refused, the slices hold the file's pairs
+--   plan_held                            where nothing is refused, the slice holds the file's pairs
 --   plan_few                             and there are at most 63
 --   plan_accepted                        a pairing written as a plan is refused nothing, and is the pairs that the file says
 use mathlib.Core.Path.{◌≡◌, refl, ap, subst, sym, ◌∙◌}
@@ -12,24 +13,26 @@ use mathlib.Core.List.{List, [], ◌∷◌, ◌++◌, map}
 use Prim.Native.Nat.{ℕ, ◌*◌, ◌≤◌, ◌<◌}
 use native.Mathlib.Omega.{arith}
 use lib.Dec.{eqb, leb, ltb}
-use borrow.Author.Tests.{eq-eqb, ne_eqb, le-leb, lt-ltb, ltb-true}
-use lib.ListN.{length, length-append, length-map}
+use borrow.Author.Tests.{eq-eqb, eqb-true, le-leb, lt-ltb, ltb-true}
+use lib.ListN.{length, take, length-append, length-map}
 use Rattle.formats.specs.Kinds.{pair_kind}
 use Rattle.formats.specs.Limits.{cameras_most, file_most, pairs_most, plan_pairs_most}
 use Rattle.counting.specs.Lists.{In}
-use Rattle.counting.specs.Pairs.{Pair, pairs_of, pair_named}
+use Rattle.counting.specs.Pairs.{pair_named}
+use Rattle.counting.specs.declared.Pair.{Pair}
 use Rattle.counting.proofs.Booleans.{and_left, and_two}
 use Rattle.counting.proofs.Membership.{all_each, each_all}
 use Rattle.frames.specs.Frames.{unless, is_whole_file, lines_of, hex_from, hex_at, plan_form, rest_lines, body_lines, has_header, bodies_fit, has_body, count_agrees, pairs_in, hex_bytes}
 use Rattle.frames.specs.Questions.{Question, ask, first_no, answered}
 use Rattle.frames.specs.Numbers.{NumberAt}
 use Rattle.frames.specs.Shape.{shape_questions, Shaped, ShapeAnswer}
-use Rattle.frames.specs.Stores.{run_at, Storable, PairsStored, StoredPairs}
+use Rattle.frames.specs.declared.shape.TheConstants.{PLAN}
+use Rattle.frames.specs.Stores.{run_at, Storable, StoredFirst, Stored}
 use Rattle.frames.proofs.Questions.{first_stop, first_go, first_none, first_both, accepted, answered_none, answered_refused}
 use Rattle.frames.proofs.HexNumbers.{hex_small}
 use Rattle.frames.proofs.HeaderFrames.{first_number}
 use Rattle.frames.proofs.ShapeFaults.{shape_asked, answer_shaped}
-use Rattle.frames.proofs.Stores.{stored_as}
+use Rattle.frames.proofs.Stores.{stored_pairs}
 use Rattle.frames.proofs.StoredBodies.{body_storable, only_size, only_pairs, only_count}
 use Rattle.frames.proofs.Writes.{two_value, four_value}
 use Rattle.matching.specs.Stock.{Stock, has_pair}
@@ -37,11 +40,11 @@ use Rattle.matching.specs.Promise.{WellFormedStock}
 use Rattle.matching.proofs.Pairs.{in_has_pair}
 use Rattle.matching.proofs.Matchings.{list_count}
 use Rattle.matching.proofs.Promises.{well_formed_fits, well_formed_lit}
-use Rattle.files.specs.Tables.{Holds}
 use Rattle.files.specs.StockFile.{plan_text}
 use Rattle.files.specs.PlanFile.{plan_pairs, pairs_told, plan_shape, pairing_questions, plan_fault}
 use Rattle.files.specs.Readers.{PlanHeld, PlanRead}
-use Rattle.files.proofs.Tables.{stored_all, all_pairs, no_pairs, back_holds, back_pairs}
+use Rattle.files.proofs.Tables.{stored_all, all_stored, none_stored, back_stored}
+use Rattle.files.proofs.Asked.{unless_yes}
 use Rattle.files.proofs.AnswerLines.{plan_size}
 use Rattle.files.proofs.AnswerEnds.{plan_plain}
 use Rattle.files.proofs.PlanBytes.{pair_line, end_line, plan_lines_lem, plan_first, plan_body, plan_last, pairs_read_lem}
@@ -56,24 +59,24 @@ told_last f =
     (eqb (pairs_told f) (length (body_lines f)))
 
 -- THE ANSWERS
-no_plan : {cameras : ℕ} {fits : List Pair} {f us vs : List ℕ} {k : ℕ} → k ≡ first_no (plan_shape f) → k ≢ 0 → PlanRead cameras fits f us vs us vs k 0
-no_plan {cameras} {fits} {f} {us} {vs} e h =
+pub plan_refused : {cameras : ℕ} {fits : List Pair} {f : List ℕ} {us : List Pair} {k : ℕ} → k ≡ first_no (plan_shape f) → k ≢ 0 → PlanRead cameras fits f us us k 0
+plan_refused {cameras} {fits} {f} {us} e h =
     let d : first_no (plan_shape f) ≢ 0 = λ q. h (e ∙ q) in
     record {
       says = e ∙ sym (first_stop (plan_shape f) (pairing_questions cameras fits (plan_pairs f)) d);
       counts = sym (answered_refused (length (plan_pairs f)) h);
-      stores = no_pairs (plan_shape f) (plan_pairs f) us vs d;
+      stores = none_stored (λ (zs : List Pair). zs) (plan_shape f) (plan_pairs f) us refl d;
     }
 
 module _ {f : List ℕ} {number next count : ℕ} (a : ShapeAnswer plan_form f number next count) where
-  pub plan_shape_lem : {cameras : ℕ} {fits : List Pair} {us vs : List ℕ} → number ≢ 0 → PlanRead cameras fits f us vs us vs number 0
+  pub plan_shape_lem : number ≢ 0 → number ≡ first_no (plan_shape f)
   plan_shape_lem h =
       let e = a.says ∙ shape_asked plan_form f true in
-      no_plan (e ∙ sym (told_last f ∙ first_stop (shape_questions plan_form f true) (told_question f) (λ q. h (e ∙ q)))) h
+      e ∙ sym (told_last f ∙ first_stop (shape_questions plan_form f true) (told_question f) (λ q. h (e ∙ q)))
 
   module _ (e : number ≡ 0) where
     plan_shaped : Shaped plan_form f next count (length (plan_pairs f))
-    plan_shaped = answer_shaped pair_kind pair_kind refl a e
+    plan_shaped = answer_shaped PLAN a e
 
     pub plan_long : 4 ≤ length f
     plan_long = let l = plan_shaped.header in omega (arith, l.past, l.high)
@@ -82,45 +85,43 @@ module _ {f : List ℕ} {number next count : ℕ} (a : ShapeAnswer plan_form f n
       told_is : pairs_told f ≡ c
       told_is = first_number f 4 next plan_shaped.header 2 2 (omega arith) ∙ sym x.is
 
-      seven : first_no (plan_shape f) ≡ unless (eqb c count) 7
-      seven =
+      pub plan_seven : first_no (plan_shape f) ≡ unless (eqb c count) 7
+      plan_seven =
           rw (← told_is, plan_shaped.counts)
           (told_last f ∙ first_go (shape_questions plan_form f true) (told_question f) refl (sym (a.says ∙ shape_asked plan_form f true) ∙ e))
 
-      pub plan_seven : {cameras : ℕ} {fits : List Pair} {us vs : List ℕ} → c ≢ count → PlanRead cameras fits f us vs us vs 7 0
-      plan_seven d = no_plan (sym (seven ∙ rw (ne_eqb _ _ d))) (λ q. omega arith)
-
-      module _ (same : c ≡ count) where
+      module _ (fit : 0 ≡ unless (eqb c count) 7) where
         -- two digits tell at most 255
         few : count ≤ plan_pairs_most
-        few = let h = hex_small 2 2 _ plan_shaped.header_digits in omega (arith, told_is)
+        few =
+            let h = hex_small 2 2 _ plan_shaped.header_digits in
+            let same = eqb-true c count (unless_yes (eqb c count) (λ q. omega arith) fit) in
+            omega (arith, told_is)
 
-        pub plan_room : {us vs : List ℕ} → Holds plan_pairs_most us vs →
-            Storable f next × (length (run_at pair_kind f next) ≤ length us) × (length (run_at pair_kind f next) ≤ length vs)
-        plan_room r =
-            let n = only_size plan_shaped pair_kind refl refl (λ q. omega arith) in
-            (body_storable plan_shaped (omega arith), omega (arith, n, few, r), omega (arith, n, few, r))
+        pub plan_room : (us : List Pair) → plan_pairs_most ≤ length us → Storable f next × (length (run_at pair_kind f next) ≤ length us)
+        plan_room us r =
+            let n = only_size plan_shaped pair_kind refl refl (λ q. omega arith) in (body_storable plan_shaped (omega arith), omega (arith, n, few))
 
-        module _ {us vs us' vs' : List ℕ} {m turn : ℕ} (st : StoredPairs pair_kind f next us vs us' vs' m turn) where
-          pairs_here : PairsStored (plan_pairs f) us vs us' vs'
-          pairs_here = (stored_as (plan_pairs f) st (only_pairs plan_shaped pair_kind refl refl (λ q. omega arith))).1
+        module _ {us us' : List Pair} {m turn : ℕ} (st : Stored (λ (y : Pair). y) pair_kind f next us us' m turn) where
+          pairs_here : StoredFirst (plan_pairs f) us us'
+          pairs_here = (stored_pairs st (plan_pairs f) (only_pairs plan_shaped pair_kind refl refl (λ q. omega arith))).1
 
           counted : count ≡ length (plan_pairs f)
           counted = sym (only_count plan_shaped pair_kind refl refl (λ q. omega arith))
 
-          pub plan_holds : Holds count us' vs'
-          plan_holds = back_holds (plan_pairs f) counted pairs_here
+          pub plan_holds : (count ≤ length us') × (take count us' ≡ plan_pairs f)
+          plan_holds = back_stored counted pairs_here
 
-          pub plan_read : {cameras : ℕ} {fits : List Pair} {k n : ℕ} → k ≡ first_no (pairing_questions cameras fits (pairs_of count us' vs')) →
-              n ≡ answered k count → PlanRead cameras fits f us vs us' vs' k n
-          plan_read {cameras} {fits} {k} q t =
-              let none : first_no (plan_shape f) ≡ 0 = seven ∙ rw (eq-eqb _ _ same) in
+          pub plan_read : {cameras : ℕ} {fits : List Pair} {k : ℕ} → k ≡ first_no (pairing_questions cameras fits (take count us')) →
+              PlanRead cameras fits f us us' k (answered k count)
+          plan_read {cameras} {fits} {k} q =
+              let none : first_no (plan_shape f) ≡ 0 = plan_seven ∙ sym fit in
               record {
                 says =
-                    (rw (back_pairs (plan_pairs f) counted pairs_here) at q) ∙
+                    (rw plan_holds.1 at q) ∙
                     sym (first_go (plan_shape f) (pairing_questions cameras fits (plan_pairs f)) refl none);
-                counts = rw counted at t;
-                stores = all_pairs (plan_shape f) (plan_pairs f) none pairs_here;
+                counts = ap (answered k) counted;
+                stores = all_stored (λ (zs : List Pair). zs) (plan_shape f) (plan_pairs f) none pairs_here;
               }
 
 -- WHERE NOTHING IS REFUSED
@@ -128,13 +129,14 @@ both_none : (n : ℕ) (fs : List Pair) (f : List ℕ) → plan_fault n fs f ≡ 
     (first_no (plan_shape f) ≡ 0) × (first_no (pairing_questions n fs (plan_pairs f)) ≡ 0)
 both_none n fs f e = first_none (plan_shape f) (pairing_questions n fs (plan_pairs f)) refl e
 
-pub plan_held : {cameras : ℕ} {fits : List Pair} {f us vs us' vs' : List ℕ} {number count : ℕ} → PlanRead cameras fits f us vs us' vs' number count →
-    number ≡ 0 → PlanHeld f us' vs' count
-plan_held {cameras} {fits} {f} {us} {vs} {us'} {vs'} r e =
+pub plan_held : {cameras : ℕ} {fits : List Pair} {f : List ℕ} {us us' : List Pair} {number count : ℕ} → PlanRead cameras fits f us us' number count →
+    number ≡ 0 → PlanHeld f us' count
+plan_held {cameras} {fits} {f} {us} {us'} r e =
     let none = (both_none cameras fits f (sym r.says ∙ e)).0 in
-    let p = subst (λ (zs : List Pair). PairsStored zs us vs us' vs') (stored_all (plan_shape f) (plan_pairs f) none) r.stores in
-    let n = r.counts ∙ answered_none _ e in
-    record { room = back_holds (plan_pairs f) n p; pairs_are = back_pairs (plan_pairs f) n p }
+    let back =
+    back_stored (r.counts ∙ answered_none _ e)
+    (subst (λ (zs : List Pair). StoredFirst zs us us') (stored_all (λ (zs : List Pair). zs) (plan_shape f) (plan_pairs f) none) r.stores) in
+    record { room = back.0; pairs_are = back.1 }
 
 -- pairs that are named, rise and share no camera are a pairing of themselves: twice as many cameras
 pairing_few : (n : ℕ) (fs ps : List Pair) → first_no (pairing_questions n fs ps) ≡ 0 → 2 * length ps ≤ n

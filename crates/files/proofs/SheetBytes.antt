@@ -17,7 +17,7 @@ use borrow.Author.Tests.{eqb-true, eq-eqb}
 use Rattle.formats.specs.Kinds.{mark_kind, sheet_end, sheet_kind}
 use Rattle.counting.specs.Tests.{same, up_from, below}
 use Rattle.counting.specs.Lists.{In}
-use Rattle.counting.specs.Pairs.{Pair}
+use Rattle.counting.specs.declared.Pair.{Pair}
 use Rattle.counting.proofs.Booleans.{and_both, and_two, and_three, true_false}
 use Rattle.counting.proofs.Range.{length_up}
 use Rattle.frames.specs.Frames.{hex_from, hex_at, digit_byte, hex_bytes, frame4, frame6, frame_of4}

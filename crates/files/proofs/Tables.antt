@@ -1,86 +1,85 @@
--- Pairs that stand in two slices.
---   stored_all, all_pairs, all_numbers, no_pairs, no_numbers     what the questions let a reader store: all, or nothing
---   pairs_length    as many as counted
---   pairs_at        the pair at a place: what both slices have there
---   pairs_next      so it is the next one from a place on
---   pairs_none      past the count nothing
---   seconds_are     the second numbers: the second slice
---   back_numbers, back_holds, back_pairs     numbers and pairs that were stored, read back
-use mathlib.Core.Path.{◌≡◌, ap, subst, sym, ◌∙◌}
-use mathlib.Core.Logic.{◌≢◌}
-use mathlib.Core.List.{List, []}
-use Prim.Native.Nat.{ℕ, ◌≤◌, ◌<◌}
-use native.Mathlib.Omega.{arith}
-use lib.ListN.{length, get_or, take, drop, drop_of_length-le}
-use lib.Seq.{length-sets, length-take-le, get_or-take}
+-- What the questions let a reader store at the front of a slice, and what is read back of it.
+--   stored_all, all_stored, none_stored     all where no question is answered no, and else nothing
+--   back_stored                             what was stored, read back
+--   classes_next, classes_end               classes stored one by one: one more is, all are
+--   Pairing was firsts seconds now n us vs  n pairs are stored of two rows of numbers, of which us and vs are left
+--   pairing_room, pairing_next, pairing_end there is room for one more; one more is stored; all are
+use Rattle.std.proofs.Common.{◌≡◌, refl, ◌≢◌, ◌⊎◌, inl, inr, ap, subst, sym, ◌∙◌, List, [], ◌∷◌, ℕ, min, ◌+◌, ◌≤◌, arith, add-one, ◌<◌, length, get_or, set, take, drop}
+use Rattle.std.proofs.lemmas.List.Edits.{sets}
+use lib.Seq.{length-sets, drop-cons}
+use lib.ListN.{drop_of_length-le}
 use borrow.Author.Tests.{ne_eqb}
-use Rattle.counting.specs.Pairs.{Pair, pair, no_pair, firsts_of, seconds_of, pairs_of}
-use Rattle.counting.specs.Loops.{Next}
-use Rattle.counting.proofs.Loops.{next_in}
+use Rattle.counting.specs.Pairs.{pair, no_pair, seconds_of, zip_pairs}
+use Rattle.counting.specs.declared.Pair.{Pair}
 use Rattle.counting.proofs.Stores.{take_sets}
-use Rattle.counting.proofs.Zips.{zip_length, zip_at, zip_seconds, pairs_stored}
+use Rattle.counting.proofs.Zips.{seconds_length}
 use Rattle.frames.specs.Questions.{Question, first_no}
-use Rattle.frames.specs.Stores.{PairsStored, NumbersStored}
-use Rattle.files.specs.Tables.{Holds, stored}
+use Rattle.frames.specs.Stores.{StoredFirst}
+use Rattle.files.specs.Tables.{stored}
 
--- WHAT IS STORED, and nothing where a question is answered no
-pub stored_all : {A : Type 0} (qs : List Question) (xs : List A) → first_no qs ≡ 0 → stored qs xs ≡ xs
-stored_all qs xs e = rw e
+-- WHAT IS STORED, or what f makes of it
+module _ {A B : Type 0} (f : List A → List B) (qs : List Question) (xs : List A) where
+  pub stored_all : first_no qs ≡ 0 → f (stored qs xs) ≡ f xs
+  stored_all e = rw e
 
-stored_none : {A : Type 0} (qs : List Question) (xs : List A) → first_no qs ≢ 0 → stored qs xs ≡ []
-stored_none qs xs h = rw (ne_eqb _ _ h)
+  pub all_stored : {ys zs : List B} → first_no qs ≡ 0 → StoredFirst (f xs) ys zs → StoredFirst (f (stored qs xs)) ys zs
+  all_stored {ys} {zs} e = subst (λ (us : List B). StoredFirst us ys zs) (sym (stored_all e))
 
-pub no_numbers : (qs : List Question) (xs us : List ℕ) → first_no qs ≢ 0 → NumbersStored (stored qs xs) us us
-no_numbers qs xs us h = let e = stored_none qs xs h in record { room = rw e (omega arith); numbers_are = rw e }
-
-pub no_pairs : (qs : List Question) (xs : List Pair) (us vs : List ℕ) → first_no qs ≢ 0 → PairsStored (stored qs xs) us vs us vs
-unfolding firsts_of seconds_of
-no_pairs qs xs us vs h =
-    let e = stored_none qs xs h in
-    record { first_room = rw e (omega arith); second_room = rw e (omega arith); firsts_are = rw e; seconds_are = rw e }
-
-pub all_numbers : {us us' : List ℕ} (qs : List Question) (xs : List ℕ) → first_no qs ≡ 0 → NumbersStored xs us us' → NumbersStored (stored qs xs) us us'
-all_numbers {us} {us'} qs xs e = subst (λ (ys : List ℕ). NumbersStored ys us us') (sym (stored_all qs xs e))
-
-pub all_pairs : {us vs us' vs' : List ℕ} (qs : List Question) (xs : List Pair) → first_no qs ≡ 0 → PairsStored xs us vs us' vs' →
-    PairsStored (stored qs xs) us vs us' vs'
-all_pairs {us} {vs} {us'} {vs'} qs xs e = subst (λ (ys : List Pair). PairsStored ys us vs us' vs') (sym (stored_all qs xs e))
-
--- PAIRS
-module _ {n : ℕ} {us vs : List ℕ} (r : Holds n us vs) where
-  same_length : length (take n vs) ≡ length (take n us)
-  same_length = length-take-le n vs r.second ∙ sym (length-take-le n us r.first)
-
-  pub pairs_length : length (pairs_of n us vs) ≡ n
-  pairs_length = zip_length (take n us) (take n vs) same_length ∙ length-take-le n us r.first
-
-  pub seconds_are : seconds_of (pairs_of n us vs) ≡ take n vs
-  seconds_are = zip_seconds (take n us) (take n vs) same_length
-
-  module _ (i : ℕ) where
-    pub pairs_at : i < n → get_or (pairs_of n us vs) i no_pair ≡ pair (get_or us i 0) (get_or vs i 0)
-    pairs_at h =
-        let l = length-take-le n us r.first in
-        zip_at (take n us) (take n vs) i same_length (omega arith) ∙ rw (get_or-take n us i 0 h, get_or-take n vs i 0 h)
-
-    pub pairs_next : i < n → Next (pairs_of n us vs) i (pair (get_or us i 0) (get_or vs i 0))
-    pairs_next h = let l = pairs_length in rw (pairs_at h) at (next_in (pairs_of n us vs) no_pair i (omega arith))
-
-    pub pairs_none : n ≤ i → drop i (pairs_of n us vs) ≡ []
-    pairs_none h = let l = pairs_length in drop_of_length-le (pairs_of n us vs) {i = i} (omega arith)
+  pub none_stored : (ys : List B) → f [] ≡ [] → first_no qs ≢ 0 → StoredFirst (f (stored qs xs)) ys ys
+  none_stored ys z h =
+      let e : f (stored qs xs) ≡ [] = rw (ne_eqb _ _ h) z in
+      record { room = rw e (omega arith); entries_are = rw e }
 
 -- READ BACK
-pub back_numbers : {us ts : List ℕ} {c : ℕ} (xs : List ℕ) → c ≡ length xs → NumbersStored xs ts us → (c ≤ length us) × (take c us ≡ xs)
-back_numbers {us} {ts} xs e p =
-    let l = ap length p.numbers_are ∙ length-sets ts 0 xs in
-    (omega (arith, p.room), rw (e, p.numbers_are) (take_sets ts xs p.room))
+pub back_stored : {A : Type 0} {xs ys zs : List A} {c : ℕ} → c ≡ length xs → StoredFirst xs ys zs → (c ≤ length zs) × (take c zs ≡ xs)
+back_stored {xs = xs} {ys} {zs} {c} e s =
+    let l : length zs ≡ length ys = ap length s.entries_are ∙ length-sets ys 0 xs in
+    (omega (arith, s.room), rw (e, s.entries_are) (take_sets ys xs s.room))
 
-module _ {us vs ts hs : List ℕ} {c : ℕ} (xs : List Pair) (e : c ≡ length xs) (p : PairsStored xs ts hs us vs) where
-  pub back_holds : Holds c us vs
-  back_holds =
-      let l = ap length p.firsts_are ∙ length-sets ts 0 (firsts_of xs) in
-      let m = ap length p.seconds_are ∙ length-sets hs 0 (seconds_of xs) in
-      record { first = omega (arith, p); second = omega (arith, p) }
+-- ONE BY ONE
+pub classes_next : (now all : List ℕ) (i : ℕ) (lines : List Pair) → i < length lines → sets now i (seconds_of (drop i lines)) ≡ all →
+    sets (set now i (get_or lines i no_pair).second) (i + 1) (seconds_of (drop (i + 1) lines)) ≡ all
+unfolding seconds_of
+classes_next now all i lines h e = rw add-one (rw (drop-cons lines i no_pair h) at e)
 
-  pub back_pairs : pairs_of c us vs ≡ xs
-  back_pairs = rw (e, p.firsts_are, p.seconds_are) (pairs_stored xs ts hs p.first_room p.second_room)
+pub classes_end : (was now : List ℕ) (i : ℕ) (lines : List Pair) → length lines ≤ i → length lines ≤ length was →
+    sets now i (seconds_of (drop i lines)) ≡ sets was 0 (seconds_of lines) → StoredFirst (seconds_of lines) was now
+unfolding seconds_of
+classes_end was now i lines h room e =
+    record { room = omega (arith, seconds_length lines); entries_are = rw (drop_of_length-le lines h) at e }
+
+pub record Pairing (was : List Pair) (firsts seconds : List ℕ) (now : List Pair) (n : ℕ) (us vs : List ℕ) : Type 0 where
+  pub rest : sets now n (zip_pairs us vs) ≡ sets was 0 (zip_pairs firsts seconds)
+  pub place : n + length (zip_pairs us vs) ≡ length (zip_pairs firsts seconds)
+
+zip_min : (us vs : List ℕ) → length (zip_pairs us vs) ≡ min (length us) (length vs)
+unfolding zip_pairs
+zip_min [] vs = omega arith
+zip_min (u ∷ us) [] = omega arith
+zip_min (u ∷ us) (v ∷ vs) = omega (arith, zip_min us vs)
+
+zip_none : (us vs : List ℕ) → (length us ≡ 0) ⊎ (length vs ≡ 0) → zip_pairs us vs ≡ []
+unfolding zip_pairs
+zip_none [] vs h = refl
+zip_none (u ∷ us) [] h = refl
+zip_none (u ∷ us) (v ∷ vs) (inl h) = absurd (omega arith)
+zip_none (u ∷ us) (v ∷ vs) (inr h) = absurd (omega arith)
+
+module _ {was : List Pair} {firsts seconds : List ℕ} {now : List Pair} {n : ℕ} {us vs : List ℕ} (p : Pairing was firsts seconds now n us vs) where
+  pub pairing_room : {u v : ℕ} {us' vs' : List ℕ} → us ≡ u ∷ us' → vs ≡ v ∷ vs' → n < length (zip_pairs firsts seconds)
+  unfolding zip_pairs
+  pairing_room d e = let l = p.place in omega (arith, rw (d, e) at l)
+
+  pub pairing_next : {u v i m : ℕ} {us' vs' : List ℕ} → us ≡ u ∷ us' → vs ≡ v ∷ vs' → i ≡ n → m ≡ n + 1 →
+      Pairing was firsts seconds (set now i (pair u v)) m us' vs'
+  unfolding zip_pairs
+  pairing_next d e k l =
+      let a = p.rest in
+      let b = p.place in
+      record { rest = rw (k, l, add-one) (rw (d, e) at a); place = omega (arith, l, rw (d, e) at b) }
+
+  pub pairing_end : (length us ≡ 0) ⊎ (length vs ≡ 0) → length (zip_pairs firsts seconds) ≤ length was → {r : ℕ} → r ≡ min (length firsts) (length seconds) →
+      StoredFirst (zip_pairs firsts seconds) was now × (r ≡ length (zip_pairs firsts seconds))
+  pairing_end h room q =
+      let a = p.rest in
+      (record { room = room; entries_are = rw (zip_none us vs h) at a }, q ∙ sym (zip_min firsts seconds))

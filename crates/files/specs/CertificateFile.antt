@@ -13,7 +13,8 @@ use Rattle.std.specs.Prelude.{Bool, true, ◌&&◌, List, [], ◌∷◌, ◌++�
 use Rattle.formats.specs.Kinds.{barrier_end, barrier_kind, class_kind, path_end, path_kind, step_kind}
 use Rattle.formats.specs.Limits.{class_most, steps_most}
 use Rattle.counting.specs.Tests.{pick, all}
-use Rattle.counting.specs.Pairs.{Pair, seconds_of}
+use Rattle.counting.specs.Pairs.{seconds_of}
+use Rattle.counting.specs.declared.Pair.{Pair}
 use Rattle.frames.specs.Frames.{or_else, unless, hex_at, first_line, body_lines, shape_fault, path_form, barrier_form, pairs_in, numbers_in, frame2, frame6, frame_of4}
 use Rattle.frames.specs.Questions.{Question, ask}
 use Rattle.frames.specs.Shape.{certificate_questions}

@@ -15,11 +15,12 @@ use Rattle.std.specs.Prelude.{Bool, ◌&&◌, List, [], ◌∷◌, ◌++◌, ℕ
 use Rattle.formats.specs.Kinds.{arc_kind}
 use Rattle.formats.specs.Limits.{arcs_most, mate_pairs_most}
 use Rattle.counting.specs.Tests.{all}
-use Rattle.counting.specs.Pairs.{Pair}
+use Rattle.counting.specs.declared.Pair.{Pair}
 use Rattle.frames.specs.Frames.{is_in, or_else, unless, hex_at, first_line, body_lines, shape_fault, graph_form, pairs_in}
 use Rattle.frames.specs.Questions.{Question, ask}
 use Rattle.frames.specs.Shape.{sized_questions}
-use Rattle.skew.specs.Graph.{Arc, arcs_of, Graph, nodes, mates_fit, has_two_ends}
+use Rattle.skew.specs.Graph.{arcs_of, Graph, nodes, mates_fit, has_two_ends}
+use Rattle.skew.specs.declared.Arc.{Arc}
 use Rattle.files.specs.Tables.{stored}
 
 abbrev pub header_fits : (file : List ℕ) → Bool

@@ -10,7 +10,8 @@ use Rattle.std.specs.Prelude.{◌&&◌, List, [], ◌∷◌, ◌++◌, ℕ, leb,
 use Rattle.formats.specs.Kinds.{pair_kind}
 use Rattle.formats.specs.Limits.{file_most}
 use Rattle.counting.specs.Tests.{all}
-use Rattle.counting.specs.Pairs.{Pair, pair_named}
+use Rattle.counting.specs.Pairs.{pair_named}
+use Rattle.counting.specs.declared.Pair.{Pair}
 use Rattle.frames.specs.Frames.{is_whole_file, hex_at, plan_form, first_line, body_lines, has_header, has_body, count_agrees, pairs_in}
 use Rattle.frames.specs.Questions.{Question, ask, first_no}
 use Rattle.files.specs.Tables.{stored}

@@ -8,7 +8,7 @@
 use Rattle.std.specs.Prelude.{◌≡◌, Bool, true, List, ℕ, ◌≤◌, ◌<◌, leb, length}
 use Rattle.formats.specs.Limits.{file_most}
 use Rattle.counting.specs.Tests.{all}
-use Rattle.counting.specs.Pairs.{Pair}
+use Rattle.counting.specs.declared.Pair.{Pair}
 use Rattle.frames.specs.Frames.{lines_of, ends_whole}
 use Rattle.frames.specs.EitherEnd.{with_returns, EndedLine, text_of, bytes_of, is_inner}
 use Rattle.skew.specs.Graph.{Graph}

@@ -17,7 +17,8 @@ use Rattle.std.specs.Prelude.{Bool, ◌&&◌, List, [], ◌∷◌, ◌++◌, ℕ
 use Rattle.formats.specs.Kinds.{budget_end, budget_kind, fit_kind, lit_kind, mark_kind, pair_kind, plan_end, plan_kind, sheet_end, sheet_kind}
 use Rattle.formats.specs.Limits.{cameras_most, fits_most}
 use Rattle.counting.specs.Tests.{all, same}
-use Rattle.counting.specs.Pairs.{Pair, pair_named}
+use Rattle.counting.specs.Pairs.{pair_named}
+use Rattle.counting.specs.declared.Pair.{Pair}
 use Rattle.frames.specs.Frames.{or_else, unless, hex_at, first_line, body_lines, shape_fault, stock_form, pairs_in, frame4, frame6, frame8, frame_of4}
 use Rattle.frames.specs.Questions.{Question, ask}
 use Rattle.frames.specs.Shape.{sized_questions}

@@ -1,81 +1,76 @@
 // Answers written at the front of a lent buffer (document 01, "Frames"): a path, a barrier, a plan directly followed by the
 // standing sheet (document 02, L6), and what a budget of searches comes to (L4).
-//   put_numbered, put_arcs, put_pairs             body frames, one for each value
+//   put_lines                                     body frames of two numbers, one for each value
+//   put_numbered, put_arcs, put_pairs             those of numbered values, of a path's arcs, of pairs
 //   put_plan, put_sheet                           the two halves of a stock's answer
 //   put_path, put_barrier, put_plan_and_sheet, put_budget     whole answers
-ghost use Rattle.std.specs.Prelude.{◌≡◌, ℕ, ◌+◌, ◌*◌, ◌≤◌, ◌++◌, length, get_or};
-ghost use Rattle.formats.specs.Kinds.{pair_kind, step_kind};
-ghost use Rattle.counting.specs.Pairs.{zip_pairs};
+ghost use Rattle.std.specs.Prelude.{◌≡◌, List, ℕ, ◌+◌, ◌*◌, ◌≤◌, ◌++◌, length};
+ghost use Rattle.formats.specs.Kinds.{kind_number, pair_kind, step_kind};
+ghost use Rattle.counting.specs.declared.Pair.{Pair};
 ghost use Rattle.frames.specs.Frames.{frame6, frame_of4};
 ghost use Rattle.frames.specs.Writes.{Written};
-ghost use Rattle.files.specs.Answers.{each_line, WrittenFirst};
+ghost use Rattle.files.specs.Answers.{LinesWritten, MakesLines, WrittenFirst};
 ghost use Rattle.files.specs.StockFile.{sheet_with, plan_text, budget_text};
 ghost use Rattle.files.specs.CertificateFile.{path_text, barrier_text};
 
-use formats::kinds;
-use frames::write::{
-    put_barrier_line, put_frame_of4, put_frame2, put_frame4, put_frame6, put_frame8,
-};
+use counting::Pair;
+use formats::kinds::Kind;
+use frames::write::{put_barrier_line, put_frame, put_frame_of4};
 
-// A frame of one kind for each value: its number, from 0, and the value.
-fn put_numbered(out: &mut [u8], at: usize, kind: usize, values: &[u8]) -> usize
-    requires { at + 7 * length values.now ≤ length out.old }
-    ensures { Written out.old at (7 * length values.now) (each_line (frame6 kind) 0 values.now) out.new result }
+// A frame for each value, of the two numbers that `fields` gives at the value's number, from 0, and the value.
+fn put_lines<T, F: Fn(usize, &T) -> (usize, usize)>(
+    out: &mut [u8],
+    at: usize,
+    kind: Kind,
+    values: &[T],
+    fields: F,
+) -> usize
+    requires room { at + 7 * length values.now ≤ length out.old }
+    requires callable { F.IsAlwaysCallable fields }
+    ensures { (line : ℕ → T → List ℕ) → MakesLines F.Fn fields (kind_number kind) line → LinesWritten line values.now out.old at out.new result }
 {
     let mut next = at;
-    let mut i: usize = 0;
-    // invariant: specs/Answers Writing; falls: values left
-    while i < values.len() {
-        next = put_frame6(out, next, kind, i, values[i] as usize);
-        i += 1;
+    // invariant: specs/Answers Writing
+    for (i, value) in values.iter().enumerate() {
+        let (first, second) = fields(i, value);
+        next = put_frame(out, next, kind, &[first, second]);
     }
     next
 }
 
-// A frame for each arc number.
+// Each value's number, from 0, and the value.
+fn put_numbered(out: &mut [u8], at: usize, kind: Kind, values: &[u8]) -> usize
+    requires { at + 7 * length values.now ≤ length out.old }
+    ensures { LinesWritten (frame6 (kind_number kind)) values.now out.old at out.new result }
+{
+    put_lines(out, at, kind, values, |i, value| (i, usize::from(*value)))
+}
+
+// A path's frame for each arc number, in four digits: the upper two, then the lower two.
 fn put_arcs(out: &mut [u8], at: usize, arcs: &[usize]) -> usize
     requires { at + 7 * length arcs.now ≤ length out.old }
-    ensures { Written out.old at (7 * length arcs.now) (each_line (λ (i : ℕ) (x : ℕ). frame_of4 step_kind x) 0 arcs.now) out.new result }
+    ensures { LinesWritten (λ (i : ℕ) (x : ℕ). frame_of4 step_kind x) arcs.now out.old at out.new result }
 {
-    let mut next = at;
-    let mut i: usize = 0;
-    // invariant: specs/Answers Writing; falls: arcs left
-    while i < arcs.len() {
-        next = put_frame_of4(out, next, kinds::STEP, arcs[i]);
-        i += 1;
-    }
-    next
+    put_lines(out, at, Kind::Step, arcs, |_, arc| (*arc / 256, *arc))
 }
 
 // A plan's frame for each pair.
-fn put_pairs(out: &mut [u8], at: usize, firsts: &[u8], seconds: &[u8]) -> usize
-    requires seconds_len { length seconds.now ≡ length firsts.now }
-    requires firsts_in_bounds { at + 7 * length firsts.now ≤ length out.old }
-    ensures { Written out.old at (7 * length firsts.now) (each_line (λ (i : ℕ) (x : ℕ). frame6 pair_kind x (get_or seconds.now i 0)) 0 firsts.now) out.new result }
+fn put_pairs(out: &mut [u8], at: usize, pairs: &[Pair]) -> usize
+    requires { at + 7 * length pairs.now ≤ length out.old }
+    ensures { LinesWritten (λ (i : ℕ) (x : Pair). frame6 pair_kind x.first x.second) pairs.now out.old at out.new result }
 {
-    let mut next = at;
-    let mut i: usize = 0;
-    // invariant: specs/Answers Writing; falls: pairs left
-    while i < firsts.len() {
-        next = put_frame6(
-            out,
-            next,
-            kinds::PAIR,
-            firsts[i] as usize,
-            seconds[i] as usize,
-        );
-        i += 1;
-    }
-    next
+    put_lines(out, at, Kind::Pair, pairs, |_, pair| {
+        (usize::from(pair.first), usize::from(pair.second))
+    })
 }
 
 pub fn put_path(out: &mut [u8], arcs: &[usize]) -> usize
     requires { 10 + 7 * length arcs.now ≤ length out.old }
     ensures { WrittenFirst (path_text arcs.now) out.old out.new result }
 {
-    let first = put_frame2(out, 0, kinds::PATH);
+    let first = put_frame(out, 0, Kind::Path, &[]);
     let last = put_arcs(out, first, arcs);
-    put_frame_of4(out, last, kinds::PATH_END, arcs.len())
+    put_frame_of4(out, last, Kind::PathEnd, arcs.len())
 }
 
 pub fn put_barrier(out: &mut [u8], classes: &[u8]) -> usize
@@ -83,51 +78,42 @@ pub fn put_barrier(out: &mut [u8], classes: &[u8]) -> usize
     ensures { WrittenFirst (barrier_text classes.now) out.old out.new result }
 {
     let first = put_barrier_line(out, 0);
-    let last = put_numbered(out, first, kinds::CLASS, classes);
-    put_frame_of4(out, last, kinds::BARRIER_END, classes.len())
+    let last = put_numbered(out, first, Kind::Class, classes);
+    put_frame_of4(out, last, Kind::BarrierEnd, classes.len())
 }
 
-pub fn put_plan(out: &mut [u8], firsts: &[u8], seconds: &[u8]) -> usize
-    requires seconds_len { length seconds.now ≡ length firsts.now }
-    requires firsts_in_bounds { 12 + 7 * length firsts.now ≤ length out.old }
-    ensures { Written out.old 0 (12 + 7 * length firsts.now) (plan_text (zip_pairs firsts.now seconds.now)) out.new result }
+pub fn put_plan(out: &mut [u8], pairs: &[Pair]) -> usize
+    requires { 12 + 7 * length pairs.now ≤ length out.old }
+    ensures { Written out.old 0 (12 + 7 * length pairs.now) (plan_text pairs.now) out.new result }
 {
-    let first = put_frame4(out, 0, kinds::PLAN, firsts.len());
-    let last = put_pairs(out, first, firsts, seconds);
-    put_frame_of4(out, last, kinds::PLAN_END, firsts.len())
+    let first = put_frame(out, 0, Kind::Plan, &[pairs.len()]);
+    let last = put_pairs(out, first, pairs);
+    put_frame_of4(out, last, Kind::PlanEnd, pairs.len())
 }
 
 fn put_sheet(out: &mut [u8], at: usize, pairs: usize, marks: &[u8]) -> usize
     requires { at + (12 + 7 * length marks.now) ≤ length out.old }
     ensures { Written out.old at (12 + 7 * length marks.now) (sheet_with pairs marks.now) out.new result }
 {
-    let first = put_frame4(out, at, kinds::SHEET, pairs);
-    let last = put_numbered(out, first, kinds::MARK, marks);
-    put_frame_of4(out, last, kinds::SHEET_END, marks.len())
+    let first = put_frame(out, at, Kind::Sheet, &[pairs]);
+    let last = put_numbered(out, first, Kind::Mark, marks);
+    put_frame_of4(out, last, Kind::SheetEnd, marks.len())
 }
 
 // The sheet's number is that of the plan's pairs.
-pub fn put_plan_and_sheet(out: &mut [u8], firsts: &[u8], seconds: &[u8], marks: &[u8]) -> usize
-    requires seconds_len { length seconds.now ≡ length firsts.now }
-    requires marks_in_bounds { 24 + 7 * (length firsts.now + length marks.now) ≤ length out.old }
-    ensures { WrittenFirst (plan_text (zip_pairs firsts.now seconds.now) ++ sheet_with (length firsts.now) marks.now) out.old out.new result }
+pub fn put_plan_and_sheet(out: &mut [u8], pairs: &[Pair], marks: &[u8]) -> usize
+    requires { 24 + 7 * (length pairs.now + length marks.now) ≤ length out.old }
+    ensures { WrittenFirst (plan_text pairs.now ++ sheet_with (length pairs.now) marks.now) out.old out.new result }
 {
-    let sheet = put_plan(out, firsts, seconds);
-    put_sheet(out, sheet, firsts.len(), marks)
+    let sheet = put_plan(out, pairs);
+    put_sheet(out, sheet, pairs.len(), marks)
 }
 
-pub fn put_budget(
-    out: &mut [u8],
-    searches: usize,
-    missing: usize,
-    firsts: &[u8],
-    seconds: &[u8],
-) -> usize
-    requires seconds_len { length seconds.now ≡ length firsts.now }
-    requires firsts_in_bounds { 16 + 7 * length firsts.now ≤ length out.old }
-    ensures { WrittenFirst (budget_text searches missing (zip_pairs firsts.now seconds.now)) out.old out.new result }
+pub fn put_budget(out: &mut [u8], searches: usize, missing: usize, pairs: &[Pair]) -> usize
+    requires { 16 + 7 * length pairs.now ≤ length out.old }
+    ensures { WrittenFirst (budget_text searches missing pairs.now) out.old out.new result }
 {
-    let first = put_frame8(out, 0, kinds::BUDGET, firsts.len(), searches, missing);
-    let last = put_pairs(out, first, firsts, seconds);
-    put_frame_of4(out, last, kinds::BUDGET_END, firsts.len())
+    let first = put_frame(out, 0, Kind::Budget, &[pairs.len(), searches, missing]);
+    let last = put_pairs(out, first, pairs);
+    put_frame_of4(out, last, Kind::BudgetEnd, pairs.len())
 }

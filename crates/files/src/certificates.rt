@@ -1,74 +1,61 @@
 // Certificates read: questions 2 to 9 of a path and of a barrier, and what they hold stored (document 01, "Questions put to a call"). A path's
 // questions ask how many arcs the graph has, a barrier's how many nodes.
-//   Certificate     a certificate as it was read
-//   told            the count beside a number of the questions
 //   read_path       a path
+//   put_classes     the classes of a barrier's lines
 //   read_barrier    a barrier
 ghost use Rattle.std.specs.Prelude.{◌≤◌, length};
 ghost use Rattle.formats.specs.Limits.{steps_most};
-ghost use Rattle.files.specs.Tables.{Holds};
-ghost use Rattle.files.specs.CertificateReaders.{CertificateTold, PathRead, BarrierRead};
+ghost use Rattle.formats.specs.Refusals.{refusal_in, value_or};
+ghost use Rattle.counting.specs.Pairs.{seconds_of};
+ghost use Rattle.frames.specs.Stores.{StoredFirst};
+ghost use Rattle.files.specs.CertificateReaders.{PathRead, BarrierRead};
 
-use crate::questions::{are_below, in_order};
-use formats::kinds;
+use crate::questions::{are_below, ask, in_order};
+use counting::Pair;
+use formats::kinds::Kind;
 use formats::limits::STEPS_MOST;
-use frames::shape::{barrier_shape, path_shape};
-use frames::store::{store_numbers, store_pairs};
+use formats::refusals::Refusal;
+use frames::shape::{BARRIER, PATH, shape_of};
+use frames::store::store;
 
-// A certificate as it was read: the refusal, or 0 and how many body lines it has; beside a refusal they are 0.
-#[derive(Clone, Copy)]
-pub struct Certificate {
-    pub number: u8,
-    pub count: usize,
-}
-
-fn told(number: u8, count: usize) -> Certificate
-    ensures { CertificateTold number count result.number result.count }
-{
-    if number != 0 {
-        return Certificate { number, count: 0 };
-    }
-    Certificate { number, count }
-}
-
-// The arc numbers of a path, in the slice.
-pub fn read_path(f: &[u8], arcs: &mut [u16], bound: usize) -> Certificate
+// How many arc numbers a path has; they stand in the slice.
+pub fn read_path(f: &[u8], arcs: &mut [u16], bound: usize) -> Result<usize, Refusal>
     requires { steps_most ≤ length arcs.old }
-    ensures { PathRead f.now arcs.old arcs.new bound result.number result.count }
+    ensures { PathRead f.now arcs.old arcs.new bound (refusal_in result) (value_or 0 result) }
 {
-    let shape = path_shape(f);
-    let number = shape.number;
-    if number != 0 {
-        return told(number, 0);
-    }
-    let count = shape.count;
-    if STEPS_MOST < count {
-        return told(8, 0);
-    }
-    store_numbers(f, shape.next, kinds::STEP, arcs);
-    if !are_below(arcs, count, bound) {
-        return told(9, 0);
-    }
-    told(0, count)
+    let path = shape_of(f, PATH)?;
+    ask(path.count <= STEPS_MOST, Refusal::Size)?;
+    store(f, path.next, Kind::Step, arcs);
+    ask(are_below(&arcs[..path.count], bound), Refusal::Names)?;
+    Ok(path.count)
 }
 
-// The nodes and classes of a barrier, in the slices.
-pub fn read_barrier(f: &[u8], nodes: &mut [u8], classes: &mut [u8], bound: usize) -> Certificate
-    requires { Holds bound nodes.old classes.old }
-    ensures { BarrierRead f.now nodes.old classes.old nodes.new classes.new bound result.number result.count }
+// The second number of each line, at the front of the other slice.
+fn put_classes(lines: &[Pair], classes: &mut [u8])
+    requires { length lines.now ≤ length classes.old }
+    ensures { StoredFirst (seconds_of lines.now) classes.old classes.new }
 {
-    let shape = barrier_shape(f);
-    let number = shape.number;
-    if number != 0 {
-        return told(number, 0);
+    // invariant: with the classes that are left, all of them are stored
+    for (i, line) in lines.iter().enumerate() {
+        classes[i] = line.second;
     }
-    let count = shape.count;
-    if count != bound {
-        return told(8, 0);
-    }
-    store_pairs(f, shape.next, kinds::CLASS, nodes, classes);
-    if !in_order(nodes, classes, count) {
-        return told(9, 0);
-    }
-    told(0, count)
+}
+
+// How many nodes a barrier has; its lines stand in the first slice, and their classes in the other.
+pub fn read_barrier(
+    f: &[u8],
+    lines: &mut [Pair],
+    classes: &mut [u8],
+    bound: usize,
+) -> Result<usize, Refusal>
+    requires { (bound ≤ length lines.old) × (bound ≤ length classes.old) }
+    ensures { BarrierRead f.now lines.old classes.old lines.new classes.new bound (refusal_in result) (value_or 0 result) }
+{
+    let barrier = shape_of(f, BARRIER)?;
+    ask(barrier.count == bound, Refusal::Size)?;
+    store(f, barrier.next, Kind::Class, lines);
+    let named = &lines[..barrier.count];
+    ask(in_order(named), Refusal::Names)?;
+    put_classes(named, classes);
+    Ok(barrier.count)
 }

@@ -1,44 +1,53 @@
 // A pair of cameras looked up among fits (document 02, L3).
 //   LookUp     whether the pair was found, and how many fits were looked at
 //   look_up    from the first fit to the first that is equal or larger
-ghost use Rattle.counting.specs.Pairs.{pair, pairs_of};
+//   pair_up    two rows of numbers, pair by pair
+ghost use Rattle.std.specs.Prelude.{◌≡◌, ◌≤◌, length};
+ghost use Rattle.counting.specs.Pairs.{zip_pairs};
+ghost use Rattle.frames.specs.Stores.{StoredFirst};
 ghost use Rattle.matching.specs.LookUp.{LookedUp};
-ghost use Rattle.files.specs.Tables.{Holds};
 
+use counting::Pair;
+
+// kept: a flag beside a count, since how many were looked at is told whether the pair was found or not
 #[derive(Clone, Copy)]
 pub struct LookUp {
     pub found: bool,
     pub looked: usize,
 }
 
-// Is (u, v) one of the fits? Each fit in turn is compared by its first camera, then by its second. It ends at the first that is not smaller: that
-// one is the pair or, since fits rise, no fit is.
-pub fn look_up(firsts: &[u8], seconds: &[u8], count: usize, u: u8, v: u8) -> LookUp
-    requires { Holds count firsts.now seconds.now }
-    ensures { LookedUp (pairs_of count firsts.now seconds.now) (pair u v) result.found result.looked }
+// Is the pair one of the fits? It ends at the first that is not smaller: that one is the pair or, since fits rise, no fit is.
+pub fn look_up(fits: &[Pair], pair: Pair) -> LookUp
+    ensures { LookedUp fits.now pair result.found result.looked }
 {
-    let mut i: usize = 0;
-    // invariant: proofs/PairScans Looking: what is found is found from i on, and i fits are passed; falls: fits left
-    while i < count {
-        if u <= firsts[i] {
-            let looked = i + 1;
-            if u != firsts[i] {
-                return LookUp {
-                    found: false,
-                    looked,
-                };
-            }
-            if v <= seconds[i] {
-                return LookUp {
-                    found: v == seconds[i],
-                    looked,
-                };
-            }
-        }
-        i += 1;
+    // kept: cameras compared one by one; the order that Pair derives takes 8 instructions for each fit passed, this 5 (docs/DECISIONS.md, D40)
+    let at = fits.iter().position(|fit| {
+        pair.first <= fit.first && (pair.first != fit.first || pair.second <= fit.second)
+    });
+    match at {
+        Some(i) => LookUp {
+            found: fits[i] == pair,
+            looked: i + 1,
+        },
+        None => LookUp {
+            found: false,
+            looked: fits.len(),
+        },
     }
-    LookUp {
-        found: false,
-        looked: count,
+}
+
+// The first numbers beside the second ones, as far as both go.
+// kept: two slices, as the C interface has them for a look-up, and the block that it lends for kept pairings
+pub fn pair_up(firsts: &[u8], seconds: &[u8], pairs: &mut [Pair]) -> usize
+    requires { length (zip_pairs firsts.now seconds.now) ≤ length pairs.old }
+    ensures { StoredFirst (zip_pairs firsts.now seconds.now) pairs.old pairs.new × (result ≡ length (zip_pairs firsts.now seconds.now)) }
+{
+    // invariant: as many pairs stand at the front as numbers were passed
+    for (i, (first, second)) in firsts.iter().zip(seconds).enumerate() {
+        pairs[i] = Pair {
+            first: *first,
+            second: *second,
+        };
     }
+    firsts.len().min(seconds.len())
 }

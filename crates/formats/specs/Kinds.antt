@@ -7,7 +7,10 @@
 --   plan_kind, pair_kind, plan_end                a plan
 --   budget_kind, budget_end                       what a budget of searches comes to (document 02, L4): its lines are a plan's
 --   verdict_kind, refusal_kind                    a check's yes or no, and a refusal
+--   kind_number k                                 the number of a kind, as code has it
 use Rattle.std.specs.Prelude.{ℕ}
+use Rattle.formats.specs.declared.kinds.Kind.{Kind}
+use Rattle.formats.specs.declared.kinds.Kind.TheVariants as kind
 
 abbrev pub graph_kind : ℕ
 graph_kind = 0x01
@@ -77,3 +80,28 @@ verdict_kind = 0x7A
 
 abbrev pub refusal_kind : ℕ
 refusal_kind = 0x7E
+
+abbrev pub kind_number : Kind → ℕ
+kind_number kind.Graph = graph_kind
+kind_number kind.Arc = arc_kind
+kind_number kind.GraphEnd = graph_end
+kind_number kind.Stock = stock_kind
+kind_number kind.Fit = fit_kind
+kind_number kind.Lit = lit_kind
+kind_number kind.StockEnd = stock_end
+kind_number kind.Path = path_kind
+kind_number kind.Step = step_kind
+kind_number kind.PathEnd = path_end
+kind_number kind.Barrier = barrier_kind
+kind_number kind.Class = class_kind
+kind_number kind.BarrierEnd = barrier_end
+kind_number kind.Sheet = sheet_kind
+kind_number kind.Mark = mark_kind
+kind_number kind.SheetEnd = sheet_end
+kind_number kind.Plan = plan_kind
+kind_number kind.Pair = pair_kind
+kind_number kind.PlanEnd = plan_end
+kind_number kind.Budget = budget_kind
+kind_number kind.BudgetEnd = budget_end
+kind_number kind.Verdict = verdict_kind
+kind_number kind.Refusal = refusal_kind

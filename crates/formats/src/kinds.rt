@@ -1,54 +1,46 @@
 // Kinds of frames (document 01, "Frames"): of each file its header, its body lines and its end; and the programs' own lines.
-//   GRAPH, ARC, GRAPH_END              a graph
-//   STOCK, FIT, LIT, STOCK_END         a stock: fits, then lit pairs
-//   PATH, STEP, PATH_END               a path: arc numbers
-//   BARRIER, CLASS, BARRIER_END        a barrier: node and class
-//   SHEET, MARK, SHEET_END             a standing sheet: camera and mark
-//   PLAN, PAIR, PLAN_END               a plan
-//   BUDGET, BUDGET_END                 what a budget of searches comes to (document 02, L4): its lines are a plan's
-//   VERDICT, REFUSAL                   a check's yes or no, and a refusal
-pub const GRAPH: usize = 0x01;
+//   Kind        a kind, by the number in a frame's first two digits
+ghost use Rattle.std.specs.Prelude.{◌≡◌};
 
-pub const ARC: usize = 0x02;
+#[derive(Clone, Copy, PartialEq, Eq)]
+pub enum Kind {
+    Graph = 0x01,
+    Arc = 0x02,
+    GraphEnd = 0x0F,
+    // a stock: fits, then lit pairs
+    Stock = 0x11,
+    Fit = 0x12,
+    Lit = 0x13,
+    StockEnd = 0x1F,
+    // a path: arc numbers
+    Path = 0x21,
+    Step = 0x22,
+    PathEnd = 0x2F,
+    // a barrier: node and class
+    Barrier = 0x31,
+    Class = 0x32,
+    BarrierEnd = 0x3F,
+    // a standing sheet: camera and mark
+    Sheet = 0x41,
+    Mark = 0x43,
+    SheetEnd = 0x4F,
+    Plan = 0x51,
+    Pair = 0x52,
+    PlanEnd = 0x5F,
+    // what a budget of searches comes to (document 02, L4): its lines are a plan's
+    Budget = 0x61,
+    BudgetEnd = 0x6F,
+    // a check's yes or no, and a refusal
+    Verdict = 0x7A,
+    Refusal = 0x7E,
+}
 
-pub const GRAPH_END: usize = 0x0F;
+impl From<Kind> for usize {
+    ghost use Rattle.formats.specs.Kinds.{kind_number};
 
-pub const STOCK: usize = 0x11;
+    ghost from_gives = { λ kind number. number ≡ kind_number kind };
 
-pub const FIT: usize = 0x12;
-
-pub const LIT: usize = 0x13;
-
-pub const STOCK_END: usize = 0x1F;
-
-pub const PATH: usize = 0x21;
-
-pub const STEP: usize = 0x22;
-
-pub const PATH_END: usize = 0x2F;
-
-pub const BARRIER: usize = 0x31;
-
-pub const CLASS: usize = 0x32;
-
-pub const BARRIER_END: usize = 0x3F;
-
-pub const SHEET: usize = 0x41;
-
-pub const MARK: usize = 0x43;
-
-pub const SHEET_END: usize = 0x4F;
-
-pub const PLAN: usize = 0x51;
-
-pub const PAIR: usize = 0x52;
-
-pub const PLAN_END: usize = 0x5F;
-
-pub const BUDGET: usize = 0x61;
-
-pub const BUDGET_END: usize = 0x6F;
-
-pub const VERDICT: usize = 0x7A;
-
-pub const REFUSAL: usize = 0x7E;
+    fn from(kind: Kind) -> usize {
+        kind as usize
+    }
+}

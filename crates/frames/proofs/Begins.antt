@@ -1,71 +1,44 @@
 -- Files that begin with a text.
---   begins_short                 a file shorter than the text does not
---   begins_next, begins_fails    compared byte by byte: an equal byte, another byte
---   begins_end                   all bytes of the text compared
---   begins_split                 a file that does is the text and what stands behind it
+--   begins_split, begins_joined    a file that does is the text and what stands behind it
 --   by_first_line                what holds of every file that begins with a barrier's first line, ended either way
 --   digit_byte, barrier_digits   which byte a digit below ten is; the two digits of a barrier's kind
 --   header_begins                a whole file with a barrier's header begins with the barrier's first line
 --   begins_header                so for a whole file the two are one question, question 4
 use mathlib.Core.Path.{◌≡◌, refl, ap, sym, subst, ◌∙◌}
 use mathlib.Core.Logic.{◌⊎◌, inl, inr, ⊎_elim}
-use mathlib.Core.Bool.{true, false, ◌&&◌, and-false}
+use mathlib.Core.Bool.{true, false, ◌&&◌}
 use mathlib.Core.List.{List, [], ◌∷◌, ◌++◌}
 use Prim.Native.Nat.{ℕ, suc, ◌+◌, ◌*◌, ◌-◌, ◌%◌, ◌≤◌, ◌<◌}
 use native.Mathlib.Omega.{arith}
-use native.Mathlib.Numerals.{add-one}
 use lib.Dec.{leb, ltb, eqb}
-use lib.ListN.{length, get_or, drop, drop_of_length-le}
+use lib.ListN.{length, get_or, drop}
 use lib.Seq.{drop-cons, get_or-take}
-use borrow.Author.Tests.{eq-eqb, ne_eqb, eqb-true, leb-true, lt-leb, lt-ltb, ltb-true}
+use borrow.Author.Tests.{eqb-true, leb-true, lt-leb, lt-ltb, ltb-true}
+use Rattle.std.specs.List.{starts_with}
+use Rattle.std.proofs.lemmas.Bool.Decides.{Decides-eqb}
+use Rattle.std.proofs.lemmas.Slice.Eq.{starts_is}
 use Rattle.counting.specs.Tests.{all}
 use Rattle.counting.proofs.Booleans.{and_left, and_right, and_two, or_right, or_cases, by_test, true_false}
 use Rattle.counting.proofs.Membership.{all_get_d}
 use Rattle.frames.specs.Frames.{is_in, is_digit, digit_of, lines_of, ends_whole, is_frame, is_whole_file, hex_from, hex_at, barrier_form, is_frame_of, first_line, has_header}
 use Rattle.frames.specs.Lines.{line_end, line_length, part, LineAt}
-use Rattle.frames.specs.Writes.{begins_with, barrier_line, barrier_line_cr_lf, begins_barrier}
+use Rattle.frames.specs.Writes.{barrier_line, barrier_line_cr_lf, begins_barrier}
 use Rattle.frames.proofs.LineEnds.{byte_inside, end_bytes}
 use Rattle.frames.proofs.LinePlaces.{line_here, lines_here, ends_here, part_length}
 use Rattle.frames.proofs.HexNumbers.{hex_two, hex_part, digit_small}
 
-pub begins_short : (text f : List ℕ) → length f < length text → begins_with text f ≡ false
-unfolding begins_with
-begins_short [] f h = absurd (omega arith)
-begins_short (c ∷ cs) [] h = refl
-begins_short (c ∷ cs) (d ∷ ds) h = rw (begins_short cs ds (omega arith)) (and-false (eqb d c))
+begins_split : (text f : List ℕ) → starts_with eqb f text ≡ true → f ≡ text ++ drop (length text) f
+begins_split text f h = (starts_is Decides-eqb f text _ refl).0 h
 
-module _ (text f : List ℕ) (i : ℕ) where
-  begins_at : i < length text → i < length f →
-      begins_with (drop i text) (drop i f) ≡ (eqb (get_or f i 0) (get_or text i 0) && begins_with (drop (i + 1) text) (drop (i + 1) f))
-  unfolding begins_with
-  begins_at h k = rw (add-one, drop-cons text i 0 h, drop-cons f i 0 k)
-
-  pub begins_next : i < length text → i < length f → get_or f i 0 ≡ get_or text i 0 →
-      begins_with (drop i text) (drop i f) ≡ begins_with (drop (i + 1) text) (drop (i + 1) f)
-  begins_next h k e = begins_at h k ∙ rw (eq-eqb _ _ e)
-
-  pub begins_fails : i < length text → i < length f → (get_or f i 0 ≡ get_or text i 0 → ⊥) → begins_with (drop i text) (drop i f) ≡ false
-  begins_fails h k n = begins_at h k ∙ rw (ne_eqb _ _ n)
-
-  pub begins_end : length text ≤ i → begins_with (drop i text) (drop i f) ≡ true
-  unfolding begins_with
-  begins_end h = rw (drop_of_length-le text h)
-
-begins_split : (text f : List ℕ) → begins_with text f ≡ true → f ≡ text ++ drop (length text) f
-unfolding begins_with
-begins_split [] f h = refl
-begins_split (c ∷ cs) [] h = true_false h refl
-begins_split (c ∷ cs) (d ∷ ds) h =
-    let e : d ≡ c = eqb-true d c (and_left (eqb d c) (begins_with cs ds) h) in
-    let r = begins_split cs ds (and_right (eqb d c) (begins_with cs ds) h) in
-    cc
+begins_joined : (text f : List ℕ) → f ≡ text ++ drop (length text) f → starts_with eqb f text ≡ true
+begins_joined text f e = (starts_is Decides-eqb f text _ refl).1 (drop (length text) f) e
 
 -- what holds of every file that begins with the barrier's first line, ended either way
 pub by_first_line : (f : List ℕ) → begins_barrier f ≡ true → (P : List ℕ → Type 0) → ((rest : List ℕ) → P (barrier_line ++ rest)) →
     ((rest : List ℕ) → P (barrier_line_cr_lf ++ rest)) → P f
 by_first_line f b P p q =
     ⊎_elim (λ t. subst P (sym (begins_split barrier_line f t)) (p (drop 3 f))) (λ t. subst P (sym (begins_split barrier_line_cr_lf f t)) (q (drop 4 f)))
-    (or_cases (begins_with barrier_line f) (begins_with barrier_line_cr_lf f) b)
+    (or_cases (starts_with eqb f barrier_line) (starts_with eqb f barrier_line_cr_lf) b)
 
 -- DIGITS of a kind
 digit_byte : (c v : ℕ) → is_digit c ≡ true → digit_of c ≡ v → v < 10 → c ≡ 48 + v
@@ -143,26 +116,30 @@ module _ (f : List ℕ) (whole : is_whole_file f ≡ true) (some : 0 < length f)
   kind = barrier_digits (get_or f 0 0) (get_or f 1 0) (digit 0 (omega arith)) (digit 1 (omega arith)) number
 
   -- behind the kind stands a line feed, or a carriage return and a line feed
-  header_feed : get_or f 2 0 ≡ 10 → begins_with barrier_line f ≡ true
+  header_feed : get_or f 2 0 ≡ 10 → starts_with eqb f barrier_line ≡ true
   header_feed e =
       let l : 2 < length f = omega (arith, size, more, line.high) in
-      begins_next barrier_line f 0 (omega arith) (omega arith) kind.0 ∙
-      begins_next barrier_line f 1 (omega arith) (omega arith) kind.1 ∙
-      begins_next barrier_line f 2 (omega arith) (omega arith) e ∙ begins_end barrier_line f 3 (omega arith)
+      let a = drop-cons f 0 0 (omega arith) in
+      let b = drop-cons f 1 0 (omega arith) in
+      let c = drop-cons f 2 0 l in
+      let k = kind in
+      begins_joined barrier_line f cc
 
-  header_both : get_or f 2 0 ≡ 13 → get_or f 3 0 ≡ 10 → begins_with barrier_line_cr_lf f ≡ true
+  header_both : get_or f 2 0 ≡ 13 → get_or f 3 0 ≡ 10 → starts_with eqb f barrier_line_cr_lf ≡ true
   header_both e g =
       let l : 3 < length f = byte_inside f 3 (λ z. absurd (omega arith)) in
-      begins_next barrier_line_cr_lf f 0 (omega arith) (omega arith) kind.0 ∙
-      begins_next barrier_line_cr_lf f 1 (omega arith) (omega arith) kind.1 ∙
-      begins_next barrier_line_cr_lf f 2 (omega arith) (omega arith) e ∙
-      begins_next barrier_line_cr_lf f 3 (omega arith) (omega arith) g ∙ begins_end barrier_line_cr_lf f 4 (omega arith)
+      let a = drop-cons f 0 0 (omega arith) in
+      let b = drop-cons f 1 0 (omega arith) in
+      let c = drop-cons f 2 0 (omega arith) in
+      let d = drop-cons f 3 0 l in
+      let k = kind in
+      begins_joined barrier_line_cr_lf f cc
 
   header_begins : begins_barrier f ≡ true
   header_begins =
       let e : 0 < line_end (drop 2 f) = rw size at ended in
       ⊎_elim (λ t. rw (header_feed t))
-      (λ t. or_right (begins_with barrier_line f) (begins_with barrier_line_cr_lf f) (header_both t.0 t.1)) (end_bytes f 2 e)
+      (λ t. or_right (starts_with eqb f barrier_line) (starts_with eqb f barrier_line_cr_lf) (header_both t.0 t.1)) (end_bytes f 2 e)
 
 lines_none : (f : List ℕ) → 0 < length (lines_of f) → 0 < length f
 unfolding lines_of

@@ -3,16 +3,16 @@
 --   first_number                   a number of the first line, at its place in the file
 --   past_short, past_whole         where none of the three is answered no: what 2 and 3 say
 --   header_line, second_line       and where the first line is, and the second
---   answer_two, answer_three, answer_empty, answer_other, answer_none      the answers, one for each way the three questions end
+--   answer_empty, answer_other, answer_none      the answers to 4: no first line, another one, the header
 use mathlib.Core.Path.{◌≡◌, refl, ap, subst, sym, ◌∙◌}
 use mathlib.Core.Logic.{◌≢◌}
 use mathlib.Core.Bool.{true, false}
 use mathlib.Core.List.{List, [], ◌∷◌}
-use Prim.Native.Nat.{ℕ, suc, ◌+◌, ◌≤◌, ◌<◌}
+use Prim.Native.Nat.{ℕ, suc, ◌+◌, ◌≤◌}
 use native.Mathlib.Omega.{arith}
 use lib.Dec.{ltb}
 use lib.ListN.{length, drop, drop_of_length-le}
-use borrow.Author.Tests.{lt-ltb, ltb-true, ltb-false, le-leb, lt-leb, leb-true}
+use borrow.Author.Tests.{lt-ltb, ltb-true, ltb-false, le-leb, leb-true}
 use Rattle.formats.specs.Limits.{file_most}
 use Rattle.counting.proofs.Booleans.{by_test, true_false}
 use Rattle.frames.specs.Frames.{lines_of, is_whole_file, hex_at, Form, is_frame_of, first_line, rest_lines, has_header}
@@ -51,13 +51,7 @@ module _ (k : Form) (f : List ℕ) where
   answer_refused : {n : ℕ} → n ≡ header_fault k f → n ≢ 0 → HeaderAnswer k f n 0
   answer_refused e h = record { says = e; second_line = sym (answered_refused (line_after f 0) h) }
 
-  pub answer_two : file_most < length f → HeaderAnswer k f 2 0
-  answer_two h = answer_refused (sym (refused 2 (header_questions k f) refl (lt-leb _ _ h))) (λ z. omega arith)
-
   module _ (h : length f ≤ file_most) where
-    pub answer_three : is_whole_file f ≡ false → HeaderAnswer k f 3 0
-    answer_three w = answer_refused (sym (refused 3 (header_questions k f) (rw (le-leb _ _ h)) w)) (λ z. omega arith)
-
     module _ (w : is_whole_file f ≡ true) where
       answer_four : has_header k f ≡ false → HeaderAnswer k f 4 0
       answer_four e = answer_refused (sym (refused 4 (header_questions k f) (rw (le-leb _ _ h, w)) e)) (λ z. omega arith)

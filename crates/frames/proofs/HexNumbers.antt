@@ -1,20 +1,21 @@
 -- Numbers of digits, in a line and at their place in the file.
 --   hex_two, hex_four    two digits from their values, four from two numbers of two
+--   hex_more, bytes_more, bytes_few    with one digit more, and its bound by bytes
 --   hex_part             a number of a line is the number at its place in the file
 --   digit_small          the value of a digit is below 16
 --   hex_small            a number of so many digits is below 16 ^ size
 --   hex_small_part       and read in the file, where its line is digits
-use mathlib.Core.Path.{◌≡◌, ap, ◌∙◌}
+use mathlib.Core.Path.{◌≡◌, refl, ap, ◌∙◌}
 use mathlib.Core.Logic.{◌⊎◌, inl, inr}
 use mathlib.Core.Bool.{true}
-use mathlib.Core.List.{List, [], ◌∷◌}
+use mathlib.Core.List.{List, [], ◌∷◌, ◌++◌}
 use Prim.Native.Nat.{ℕ, zero, suc, ◌+◌, ◌*◌, ◌-◌, ◌^◌, ◌≤◌, ◌<◌}
-use native.Mathlib.Nat.{mul_assoc, mul-le-mul_left, mul-le-mul_right, one-le-pow, pow-succ'}
+use native.Mathlib.Nat.{mul_assoc, mul-le-mul_left, mul-le-mul_right, one-le-pow, pow-le-pow_right, pow-succ'}
 use native.Mathlib.Omega.{arith}
 use native.Mathlib.Numerals.{add-one}
 use lib.Dec.{leb}
 use lib.ListN.{length, get_or, take, drop, length-take}
-use lib.Seq.{drop-cons, drop-drop}
+use lib.Seq.{drop-cons, drop-drop, take-suc}
 use borrow.Author.Tests.{leb-true}
 use Rattle.counting.specs.Tests.{all}
 use Rattle.counting.proofs.Booleans.{and_left, and_right, or_cases, by_test}
@@ -41,6 +42,21 @@ hex_four i f h =
     let e : i + 1 + 1 ≡ i + 2 = omega arith in
     let r = hex_step 0 i 3 f (omega arith) ∙ hex_step _ (i + 1) 2 f (omega arith) ∙ hex_step _ (i + 1 + 1) 1 f (omega arith) ∙ hex_step _ (i + 1 + 1 + 1) 0 f (omega arith) in
     omega (arith, rw e at r)
+
+-- one digit more, from the end; a digit is counted as a byte, which it is at most
+hex_behind : (n c : ℕ) (xs : List ℕ) → hex_from n (xs ++ c ∷ []) ≡ 16 * hex_from n xs + digit_of c
+unfolding hex_from
+hex_behind n c [] = refl
+hex_behind n c (x ∷ xs) = hex_behind (16 * n + digit_of x) c xs
+
+pub hex_more : (i : ℕ) (xs : List ℕ) → i < length xs → hex_from 0 (take (i + 1) xs) ≡ 16 * hex_from 0 (take i xs) + digit_of (get_or xs i 0)
+hex_more i xs h = rw (add-one, take-suc xs i 0 h) (hex_behind 0 (get_or xs i 0) (take i xs))
+
+pub bytes_more : (i n v : ℕ) → n < 256 ^ i → v ≤ 200 → 16 * n + v < 256 ^ (i + 1)
+bytes_more i n v h k = let p = one-le-pow i 256 (omega arith) in rw (add-one, pow-succ' 256 i) (omega arith)
+
+pub bytes_few : (i n : ℕ) → n < 256 ^ i → i < 4 → n < 256 ^ 3
+bytes_few i n h k = let p : 256 ^ i ≤ 256 ^ 3 = pow-le-pow_right (omega arith) {j = 3} (omega arith) in omega arith
 
 -- IN A LINE and in the file
 pub hex_part : (i n at end : ℕ) (f : List ℕ) → at + i + n ≤ end → hex_at i n (part at end f) ≡ hex_at (at + i) n f

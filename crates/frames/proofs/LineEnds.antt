@@ -1,8 +1,8 @@
 -- What ends a line, by its bytes. Laws of lines by place and by number stand on these.
---   end_none, end_feed, end_both     none past the file's end, one byte at a line feed, two at a carriage return and a line feed
---   end_lone, end_other              none at a lone carriage return, nor at another byte
+--   end_none                         none past the file's end
 --   end_bytes                        the bytes of a line end
 --   byte_inside                      a byte that is not 0 stands within the file
+--   front_feed, front_both, front_none     what stands at the front, by what the bytes there are compared with
 --   end_fits, end_within             a line end stands within the file
 --   end_above, end_digit             a byte that is no control character ends no line, nor does a digit
 --   digit_other                      a digit is no byte that is none
@@ -11,12 +11,15 @@
 --   lines_end, ends_end              the lines, and whether the last is ended, where a line end stands at the front
 --   lines_byte, ends_byte            and where a byte of the line does
 use mathlib.Core.Path.{◌≡◌, refl, sym, ap, ◌∙◌, subst}
-use mathlib.Core.Logic.{◌⊎◌, inl, inr}
+use mathlib.Core.Logic.{◌⊎◌, inl, inr, ⊎_elim}
 use mathlib.Core.Bool.{Bool, true, false, ◌&&◌, and-false}
 use mathlib.Core.List.{List, [], ◌∷◌}
 use Prim.Native.Nat.{ℕ, suc, ◌+◌, ◌≤◌, ◌<◌}
 use native.Mathlib.Omega.{arith}
 use lib.Dec.{eqb, ltb}
+use Rattle.std.specs.List.{starts_with}
+use Rattle.std.proofs.lemmas.Bool.Decides.{Decides-eqb}
+use Rattle.std.proofs.lemmas.Slice.Eq.{starts_is}
 use lib.ListN.{length, get_or, drop, length-drop, drop_of_length-le, get_or-eq_default}
 use lib.Seq.{drop-cons, get_or-drop}
 use borrow.Author.Tests.{ne_eqb, eqb-true, lt-ltb, ltb-true, ltb-false}
@@ -43,18 +46,6 @@ module _ (f : List ℕ) (i : ℕ) where
       by_test (ltb i (length f)) (λ h. rw (drop-cons f i 0 (ltb-true _ _ h), second_byte))
       (λ h. let p = ltb-false i (length f) h in end_none p ∙ rw (get_or-eq_default f 0 p))
 
-  pub end_feed : get_or f i 0 ≡ 10 → line_end (drop i f) ≡ 1
-  end_feed e = end_here ∙ rw e
-
-  pub end_both : get_or f i 0 ≡ 13 → get_or f (i + 1) 0 ≡ 10 → line_end (drop i f) ≡ 2
-  end_both e g = end_here ∙ rw (e, g)
-
-  pub end_lone : get_or f i 0 ≡ 13 → (get_or f (i + 1) 0 ≡ 10 → ⊥) → line_end (drop i f) ≡ 0
-  end_lone e g = end_here ∙ rw (e, ne_eqb _ _ g)
-
-  pub end_other : (get_or f i 0 ≡ 10 → ⊥) → (get_or f i 0 ≡ 13 → ⊥) → line_end (drop i f) ≡ 0
-  end_other e g = end_here ∙ rw (ne_eqb _ _ e, ne_eqb _ _ g)
-
   -- what a line end is made of
   pub end_bytes : 0 < line_end (drop i f) → (get_or f i 0 ≡ 10) ⊎ ((get_or f i 0 ≡ 13) × (get_or f (i + 1) 0 ≡ 10))
   end_bytes h =
@@ -62,6 +53,39 @@ module _ (f : List ℕ) (i : ℕ) where
       (λ e. by_test (eqb (get_or f i 0) 13 && eqb (get_or f (i + 1) 0) 10)
       (λ t. let r = and_two (eqb (get_or f i 0) 13) (eqb (get_or f (i + 1) 0) 10) t in inr (eqb-true _ _ r.0, eqb-true _ _ r.1))
       (λ t. absurd (omega (arith, rw (end_here, t, e) at h))))
+
+-- AT THE FRONT
+pub front_feed : (s : List ℕ) → starts_with eqb s (10 ∷ []) ≡ true → line_end s ≡ 1
+unfolding line_end
+front_feed s h = ap line_end ((starts_is Decides-eqb s (10 ∷ []) _ refl).0 h)
+
+pub front_both : (s : List ℕ) → starts_with eqb s (13 ∷ 10 ∷ []) ≡ true → line_end s ≡ 2
+unfolding line_end
+front_both s h = ap line_end ((starts_is Decides-eqb s (13 ∷ 10 ∷ []) _ refl).0 h)
+
+pub front_none : (s : List ℕ) → starts_with eqb s (10 ∷ []) ≡ false → starts_with eqb s (13 ∷ 10 ∷ []) ≡ false → line_end s ≡ 0
+front_none s h g =
+    by_test (ltb 0 (line_end s))
+    (λ t.
+    ⊎_elim
+    (λ (e : get_or s 0 0 ≡ 10). true_false ((starts_is Decides-eqb s (10 ∷ []) _ refl).1 (drop 1 s) (front_is e)) h)
+    (λ (e : (get_or s 0 0 ≡ 13) × (get_or s 1 0 ≡ 10)). true_false ((starts_is Decides-eqb s (13 ∷ 10 ∷ []) _ refl).1 (drop 2 s) (both_are e)) g)
+    (end_bytes s 0 (ltb-true _ _ t)))
+    (λ t. omega (arith, ltb-false _ _ t))
+  where
+    front_is : get_or s 0 0 ≡ 10 → s ≡ 10 ∷ drop 1 s
+    front_is e =
+        let k = byte_inside s 0 (λ z. absurd (omega arith)) in
+        let d = drop-cons s 0 0 k in
+        cc
+
+    both_are : (get_or s 0 0 ≡ 13) × (get_or s 1 0 ≡ 10) → s ≡ 13 ∷ 10 ∷ drop 2 s
+    both_are e =
+        let k = byte_inside s 0 (λ z. absurd (omega arith)) in
+        let l = byte_inside s 1 (λ z. absurd (omega arith)) in
+        let d = drop-cons s 0 0 k in
+        let g = drop-cons s 1 0 l in
+        cc
 
 -- HOW MANY BYTES it takes
 crlf_more : (c : ℕ) (cs : List ℕ) → is_cr_lf c cs ≡ true → 0 < length cs

@@ -3,21 +3,20 @@
 --   SameLine                                      no line end stands from one place up to another
 --   same_start, same_next, same_ended, same_over  so at a line's first byte, past a byte, at a line end, at the file's end
 --   same_control                                  and up to the next control character
---   control_next, control_here, control_over      where that is: past another byte, here, at the file's end
+--   control_here, control_next                    where that is: here, past another byte
 --   lines_here, lines_some, last_here             the lines from a place on: the line there, and those from the next on
 --   line_after_lem                                where the line behind it begins
 --   ends_here                                     whether the last line is ended, from a place on
---   part_snoc                                     a part with one byte more
 --   part_length, part_tail                        how long a part is; a part that goes on to the file's end
 use mathlib.Core.Path.{◌≡◌, refl, ap, sym, ◌∙◌}
 use mathlib.Core.Bool.{◌&&◌}
-use mathlib.Core.List.{List, [], ◌∷◌, ◌++◌}
+use mathlib.Core.List.{List, [], ◌∷◌}
 use Prim.Native.Nat.{ℕ, suc, ◌+◌, ◌-◌, ◌≤◌, ◌<◌}
 use native.Mathlib.Omega.{arith}
 use native.Mathlib.Numerals.{add-one}
 use lib.Dec.{ltb}
 use lib.ListN.{length, get_or, take, drop, length-drop, drop_of_length-le}
-use lib.Seq.{drop-cons, drop-drop, take-suc, take_all, get_or-drop, length-take-le}
+use lib.Seq.{drop-cons, drop-drop, take_all, length-take-le}
 use borrow.Author.Tests.{ltb-true, ltb-false, lt-ltb, le-ltb}
 use Rattle.counting.proofs.Booleans.{by_test}
 use Rattle.frames.specs.Frames.{with_byte, lines_of, ends_whole}
@@ -39,7 +38,7 @@ module _ (c : ℕ) (cs : List ℕ) where
   unfolding line_length
   length_end h = rw (lt-ltb _ _ h)
 
-  length_byte : line_end (c ∷ cs) ≡ 0 → line_length (c ∷ cs) ≡ suc (line_length cs)
+  pub length_byte : line_end (c ∷ cs) ≡ 0 → line_length (c ∷ cs) ≡ suc (line_length cs)
   unfolding line_length
   length_byte h = rw h
 
@@ -107,13 +106,6 @@ module _ (f : List ℕ) (i : ℕ) where
       rw (d, add-one, add-one) (length_byte (get_or f i 0) (drop (suc i) f) (rw d at e))
 
 -- PARTS
-pub part_snoc : (i e : ℕ) (f : List ℕ) → i ≤ e → e < length f → part i (e + 1) f ≡ part i e f ++ (get_or f e 0 ∷ [])
-part_snoc i e f h k =
-    let t = take-suc (drop i f) (e - i) 0 (simp length-drop (omega arith)) in
-    let n : e + 1 - i ≡ suc (e - i) = omega arith in
-    let m : i + (e - i) ≡ e = omega arith in
-    rw (n, t, get_or-drop, m)
-
 pub part_length : (at end : ℕ) (f : List ℕ) → end ≤ length f → length (part at end f) ≡ end - at
 part_length at end f h = length-take-le (end - at) (drop at f) (simp length-drop (omega arith))
 
@@ -155,18 +147,13 @@ pub same_start : (f : List ℕ) (at : ℕ) → at < length f → SameLine f at a
 same_start f at h = record { low = omega arith; high = omega arith; same = refl }
 
 -- THE NEXT CONTROL CHARACTER, byte by byte
-module _ (f : List ℕ) (i : ℕ) where
-  pub control_next : i < length f → 32 ≤ get_or f i 0 → i + control_at (drop i f) ≡ i + 1 + control_at (drop (i + 1) f)
-  unfolding control_at
-  control_next h g = rw (add-one, drop-cons f i 0 h, le-ltb _ _ g) (omega arith)
+pub control_here : (c : ℕ) (cs : List ℕ) → c < 32 → control_at (c ∷ cs) ≡ 0
+unfolding control_at
+control_here c cs h = rw (lt-ltb _ _ h)
 
-  pub control_here : i < length f → get_or f i 0 < 32 → i + control_at (drop i f) ≡ i
-  unfolding control_at
-  control_here h g = rw (drop-cons f i 0 h, lt-ltb _ _ g) (omega arith)
-
-  pub control_over : length f ≤ i → i + control_at (drop i f) ≡ i
-  unfolding control_at
-  control_over h = rw (drop_of_length-le f h) (omega arith)
+pub control_next : (c : ℕ) (cs : List ℕ) → 32 ≤ c → control_at (c ∷ cs) ≡ control_at cs + 1
+unfolding control_at
+control_next c cs h = rw (le-ltb _ _ h) (sym (add-one (control_at cs)))
 
 module _ {f : List ℕ} {at i : ℕ} (s : SameLine f at i) where
   pub same_control : SameLine f at (i + control_at (drop i f))

@@ -11,7 +11,7 @@
 --   refused                   where a question is answered no and every one before it yes, its number is the refusal
 --   refusal_is                the refusal is 0 or one of the numbers: what holds of those holds of it
 --   answered_none, answered_refused     a value beside 0, and beside a refusal
---   beside_same, beside_refused         the same value beside the same number; any value beside a refusal
+--   refusal_some, beside_refusal        a refusal's number is not 0, and so no value stands beside it
 use mathlib.Core.Path.{◌≡◌, refl, ap, sym, ◌∙◌}
 use mathlib.Core.Logic.{◌≢◌}
 use mathlib.Core.Bool.{Bool, true, false, ◌&&◌}
@@ -20,6 +20,9 @@ use Prim.Native.Nat.{ℕ, ◌<◌}
 use native.Mathlib.Omega.{arith}
 use lib.Dec.{eqb, ltb}
 use borrow.Author.Tests.{eq-eqb, ne_eqb, eqb-true, eqb-false, ltb-true}
+use Rattle.formats.specs.Refusals.{refusal_number}
+use Rattle.formats.specs.declared.refusals.Refusal.{Refusal}
+use Rattle.formats.specs.declared.refusals.Refusal.TheVariants as refusal
 use Rattle.counting.specs.Tests.{pick}
 use Rattle.counting.proofs.Booleans.{and_left, and_right, by_test, true_false}
 use Rattle.frames.specs.Frames.{or_else, unless}
@@ -109,8 +112,27 @@ answered_none x e = rw e
 pub answered_refused : {n : ℕ} (x : ℕ) → n ≢ 0 → answered n x ≡ 0
 answered_refused x h = rw (ne_eqb _ _ h)
 
-pub beside_same : {n m x a b : ℕ} → m ≡ n → x ≡ answered n a → a ≡ b → x ≡ answered m b
-beside_same {n} {m} {a = a} {b} e h q = h ∙ ap (answered n) q ∙ ap (λ (i : ℕ). answered i b) (sym e)
+-- A REFUSAL has a number
+pub refusal_some : (e : Refusal) → refusal_number e ≢ 0
+refusal_some refusal.Room q = omega arith
+refusal_some refusal.Length q = omega arith
+refusal_some refusal.Lines q = omega arith
+refusal_some refusal.Header q = omega arith
+refusal_some refusal.Numbers q = omega arith
+refusal_some refusal.Body q = omega arith
+refusal_some refusal.Count q = omega arith
+refusal_some refusal.Size q = omega arith
+refusal_some refusal.Names q = omega arith
+refusal_some refusal.Mates q = omega arith
+refusal_some refusal.FitsRise q = omega arith
+refusal_some refusal.PairsRise q = omega arith
+refusal_some refusal.PairsFit q = omega arith
+refusal_some refusal.Shared q = omega arith
+refusal_some refusal.Searches q = omega arith
+refusal_some refusal.SelfArc q = omega arith
+refusal_some refusal.Caller q = omega arith
+refusal_some refusal.NotKept q = omega arith
+refusal_some refusal.Full q = omega arith
 
-pub beside_refused : {n m x : ℕ} (a b : ℕ) → n ≢ 0 → m ≡ n → x ≡ answered n a → x ≡ answered m b
-beside_refused a b h e q = q ∙ answered_refused a h ∙ sym (answered_refused b (λ z. h (sym e ∙ z)))
+pub beside_refusal : (e : Refusal) (x : ℕ) → answered (refusal_number e) x ≡ 0
+beside_refusal e x = answered_refused x (refusal_some e)

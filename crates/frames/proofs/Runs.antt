@@ -19,7 +19,7 @@ use Prim.Native.Nat.{ℕ, suc}
 use lib.ListN.{length}
 use borrow.Author.Tests.{ne_eqb, eqb-true}
 use Rattle.counting.specs.Tests.{all}
-use Rattle.counting.specs.Pairs.{Pair}
+use Rattle.counting.specs.declared.Pair.{Pair}
 use Rattle.counting.proofs.Booleans.{and_left, and_right, by_test}
 use Rattle.counting.proofs.Membership.{all_each, each_all}
 use Rattle.frames.specs.Frames.{kind_of, is_frame_of, pair_in, pairs_in}

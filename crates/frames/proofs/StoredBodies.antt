@@ -10,7 +10,7 @@
 use mathlib.Core.Path.{◌≡◌, ap, sym, ◌∙◌}
 use mathlib.Core.Logic.{◌≢◌}
 use mathlib.Core.Bool.{true, false}
-use mathlib.Core.List.{List, [], ◌∷◌, ◌++◌}
+use mathlib.Core.List.{List, [], ◌∷◌, ◌++◌, map}
 use Prim.Native.Nat.{ℕ, suc, ◌+◌, ◌*◌, ◌-◌, ◌≤◌}
 use native.Mathlib.Omega.{arith}
 use lib.Dec.{eqb, leb}
@@ -18,14 +18,15 @@ use lib.ListN.{length, take, drop, length-append, length-drop, take-append-drop}
 use lib.Seq.{take-suc, take-length, length-take-le}
 use borrow.Author.Tests.{eqb-true, le-leb}
 use Rattle.counting.specs.Tests.{all}
-use Rattle.counting.specs.Pairs.{Pair}
+use Rattle.counting.specs.declared.Pair.{Pair}
 use Rattle.counting.proofs.Booleans.{and_left, and_right, and_both}
 use Rattle.counting.proofs.Membership.{all_each, each_all, all_append}
 use Rattle.frames.specs.Frames.{lines_of, is_digit, Form, last_line, body_lines, rest_lines, pairs_in, numbers_in}
 use Rattle.frames.specs.Lines.{is_plain}
 use Rattle.frames.specs.Shape.{first_kind, last_kind, Shaped}
-use Rattle.frames.specs.Stores.{has_kind, run_of, past_run, run_at, is_long, Storable, RunPassed}
+use Rattle.frames.specs.Stores.{has_kind, run_of, past_run, run_at, is_long, Storable, RunPassed, number_of}
 use Rattle.frames.proofs.LineCounts.{long_few}
+use Rattle.frames.proofs.Stores.{numbers_pairs}
 use Rattle.frames.proofs.Runs.{other_kind, frames_kind, run_only, run_first, run_second, run_pairs, pairs_first, pairs_second}
 
 plain_long : (n m : ℕ) (l : List ℕ) → n ≤ m → is_plain m l ≡ true → is_long n l ≡ true
@@ -55,14 +56,16 @@ module _ {form : Form} {f : List ℕ} {next count firsts : ℕ} (s : Shaped form
   end_not : (k : ℕ) → form.end ≢ k → has_kind k (last_line f) ≡ false
   end_not k n = other_kind k form.end (last_line f) (and_left (has_kind form.end (last_line f)) _ s.end_frame) n
 
+  body_long : 4 ≤ form.body_size → all (is_long 6) (body_lines f) ≡ true
+  body_long h =
+      each_all (is_long 6) (body_lines f)
+      (λ l i. plain_long 6 (2 + form.body_size) l (omega arith) (all_each (is_plain (2 + form.body_size)) (body_lines f) s.plain_body l i))
+
   pub body_storable : 4 ≤ form.body_size → Storable f next
   unfolding all
   body_storable h =
-      let each =
-      each_all (is_long 6) (body_lines f)
-      (λ l i. plain_long 6 (2 + form.body_size) l (omega arith) (all_each (is_plain (2 + form.body_size)) (body_lines f) s.plain_body l i)) in
       let last : is_long 6 (last_line f) ≡ true = plain_long 6 6 (last_line f) (omega arith) s.plain_end in
-      record { inside = s.header.high; long = rw lines_split (all_append (is_long 6) (body_lines f) (last_line f ∷ []) each (rw last)) }
+      record { inside = s.header.high; long = rw lines_split (all_append (is_long 6) (body_lines f) (last_line f ∷ []) (body_long h) (rw last)) }
 
   pub body_few : 4 ≤ form.body_size → 7 * (count + 1) ≤ length f + 1
   body_few h =
@@ -73,10 +76,11 @@ module _ {form : Form} {f : List ℕ} {next count firsts : ℕ} (s : Shaped form
 
   -- ONE KIND
   module _ (k : ℕ) (first : first_kind form ≡ k) (last : last_kind form ≡ k) (ends : form.end ≢ k) where
+    only_kinds : all (has_kind k) (body_lines f) ≡ true
+    only_kinds = rw body_split at (all_append (has_kind k) (take firsts (body_lines f)) (drop firsts (body_lines f)) (firsts_of k first) (lasts_of k last))
+
     pub only_run : run_at k f next ≡ body_lines f
-    only_run =
-        let kinds = all_append (has_kind k) (take firsts (body_lines f)) (drop firsts (body_lines f)) (firsts_of k first) (lasts_of k last) in
-        ap (run_of k) lines_split ∙ run_only k (body_lines f) (last_line f) (rw body_split at kinds) (end_not k ends)
+    only_run = ap (run_of k) lines_split ∙ run_only k (body_lines f) (last_line f) only_kinds (end_not k ends)
 
     pub only_size : length (run_at k f next) ≡ count
     only_size = ap length only_run ∙ sym s.counts
@@ -87,8 +91,8 @@ module _ {form : Form} {f : List ℕ} {next count firsts : ℕ} (s : Shaped form
     pub only_count : length (pairs_in k (body_lines f)) ≡ count
     only_count = ap (λ (xs : List Pair). length xs) (sym only_pairs) ∙ run_pairs k (lines_of (drop next f)) ∙ only_size
 
-    pub only_numbers : numbers_in (run_at k f next) ≡ numbers_in (body_lines f)
-    only_numbers = ap numbers_in only_run
+    pub only_numbers : 4 ≤ form.body_size → map number_of (pairs_in k (run_at k f next)) ≡ numbers_in (body_lines f)
+    only_numbers h = ap (map number_of) only_pairs ∙ numbers_pairs k (body_lines f) only_kinds (body_long h)
 
   -- TWO KINDS
   module _ (k m : ℕ) (first : first_kind form ≡ k) (last : last_kind form ≡ m) (apart : m ≢ k) (ends_k : form.end ≢ k) (ends_m : form.end ≢ m) where

@@ -1,42 +1,40 @@
 -- Runs of body frames, stored line by line.
---   column from size lines           one number of each line
 --   Passing kind g at i n            of the run that begins at `at`, n lines are passed, and i is the place reached
---   Filling from size .. slice       so many of one number of each line are stored at the slice's front
+--   Filling of kind g .. slice       so many of the run's frames are stored at the slice's front, each as `of` makes it of its two numbers
 --   Stopped kind g i                 no line of the kind stands at i
 --   LineNumbers g i end              the line at i is long enough for a body frame, and how large its numbers are
 --   line_numbers                     a line that is passed is
 --   passing_room                     an element is left for a line of the run
---   passing_start                    no line is passed
 --   passing_next, filling_next       past a line of the kind
 --   stopped_other, stopped_over      a line of another kind, or no line, stops the run
 --   numbers_length                   as many numbers as lines
---   stored_pairs, stored_numbers     what is stored then
---   stored_as                        by the pairs that the run says
+--   numbers_pairs                    the numbers of lines of a kind are the two of each as one
+--   stored                           what is stored then
+--   stored_as, stored_pairs          by the list that the run says; by the pairs, where they are stored as they are
 --   storable_next                    the lines past a run can be stored too
 use mathlib.Core.Path.{◌≡◌, refl, ap, subst, sym, ◌∙◌}
 use mathlib.Core.Logic.{◌≢◌}
 use mathlib.Core.Bool.{true, false}
 use mathlib.Core.List.{List, [], ◌∷◌, map}
-use Prim.Native.Nat.{ℕ, ◌+◌, ◌≤◌, ◌<◌}
+use Prim.Native.Nat.{ℕ, suc, ◌+◌, ◌≤◌, ◌<◌}
 use native.Mathlib.Nat.{add-zero}
+use native.Mathlib.Numerals.{add-one}
 use native.Mathlib.Omega.{arith}
 use lib.ListN.{length, drop, set, length-map, drop_of_length-le}
-use lib.Seq.{sets}
+use lib.Dec.{leb}
+use Rattle.std.proofs.lemmas.List.{map-id}
+use Rattle.std.proofs.lemmas.List.Edits.{sets}
 use borrow.Author.Tests.{eq-eqb, ne_eqb, leb-true}
 use Rattle.counting.specs.Tests.{all}
-use Rattle.counting.specs.Pairs.{Pair, firsts_of, seconds_of}
-use Rattle.counting.specs.Loops.{Storing}
-use Rattle.counting.proofs.Booleans.{and_two, by_test}
-use Rattle.counting.proofs.Loops.{storing_next, storing_end}
+use Rattle.counting.specs.Pairs.{pair}
+use Rattle.counting.specs.declared.Pair.{Pair}
+use Rattle.counting.proofs.Booleans.{and_left, and_two}
 use Rattle.frames.specs.Frames.{lines_of, is_digit, hex_at, kind_of, pairs_in, numbers_in}
 use Rattle.frames.specs.Lines.{part, line_after, past_lines, LineAt}
-use Rattle.frames.specs.Stores.{has_kind, run_of, past_run, run_at, is_long, Storable, RunPassed, PairsStored, StoredPairs, StoredNumbers}
+use Rattle.frames.specs.Stores.{has_kind, run_of, past_run, run_at, is_long, Storable, RunPassed, StoredFirst, Stored, number_of}
 use Rattle.frames.proofs.LinePlaces.{lines_here, line_after_lem, part_length}
-use Rattle.frames.proofs.HexNumbers.{hex_part, hex_small_part}
+use Rattle.frames.proofs.HexNumbers.{hex_four, hex_part, hex_small_part}
 use Rattle.frames.proofs.Runs.{run_kept, past_kept, run_none, past_none, run_nil, past_nil, past_each, run_pairs}
-
-abbrev pub column : (from size : ℕ) → List (List ℕ) → List ℕ
-column i n ls = map (hex_at i n) ls
 
 pub record Passing (kind : ℕ) (g : List ℕ) (at i n : ℕ) : Type 0 where
   pub left : Storable g i
@@ -45,8 +43,8 @@ pub record Passing (kind : ℕ) (g : List ℕ) (at i n : ℕ) : Type 0 where
   pub rest : past_run kind (lines_of (drop i g)) ≡ past_run kind (lines_of (drop at g))
   pub low : at ≤ i
 
-abbrev pub Filling : (from size kind : ℕ) → (g : List ℕ) → (at i n : ℕ) → (before slice : List ℕ) → Type 0
-Filling from size kind g at i n before slice = Storing before 0 (column from size (run_at kind g at)) slice n (column from size (run_at kind g i))
+pub record Filling {T : Type 0} (of : Pair → T) (kind : ℕ) (g : List ℕ) (at i n : ℕ) (before slice : List T) : Type 0 where
+  pub rest : sets slice n (map of (pairs_in kind (run_at kind g i))) ≡ sets before 0 (map of (pairs_in kind (run_at kind g at)))
 
 abbrev pub Stopped : (kind : ℕ) → (g : List ℕ) → (i : ℕ) → Type 0
 Stopped kind g i = (run_at kind g i ≡ []) × (past_run kind (lines_of (drop i g)) ≡ lines_of (drop i g))
@@ -55,10 +53,6 @@ pub record LineNumbers (g : List ℕ) (i end : ℕ) : Type 0 where
   pub long : i + 6 ≤ end
   pub first : hex_at (i + 2) 2 g < 256
   pub second : hex_at (i + 4) 2 g < 256
-  pub number : hex_at (i + 2) 4 g < 65536
-
-pub passing_start : (kind : ℕ) {g : List ℕ} {at : ℕ} → Storable g at → Passing kind g at at 0
-passing_start kind s = record { left = s; counts = omega arith; place = refl; rest = refl; low = omega arith }
 
 -- A LINE of the run, or one that stops it
 module _ {kind : ℕ} {g : List ℕ} {at i end next n : ℕ} (h : LineAt g i end next) (p : Passing kind g at i n) where
@@ -80,7 +74,6 @@ module _ {kind : ℕ} {g : List ℕ} {at i end next n : ℕ} (h : LineAt g i end
         long = l;
         first = hex_small_part 2 2 i end g (omega arith) d;
         second = hex_small_part 4 2 i end g (omega arith) d;
-        number = hex_small_part 2 4 i end g (omega arith) d;
       }
 
   line_kind : kind_of (part i end g) ≡ hex_at i 2 g
@@ -117,35 +110,37 @@ module _ {kind : ℕ} {g : List ℕ} {at i end next n : ℕ} (h : LineAt g i end
           low = omega (arith, h, p);
         }
 
-    pub filling_next : (from size : ℕ) {before slice : List ℕ} → from + size ≤ 6 → Filling from size kind g at i n before slice →
-        Filling from size kind g at next (n + 1) before (set slice n (hex_at (i + from) size g))
-    filling_next from size o s =
+    pairs_here : pairs_in kind (run_at kind g i) ≡ pair (hex_at (i + 2) 2 g) (hex_at (i + 4) 2 g) ∷ pairs_in kind (run_at kind g next)
+    unfolding pairs_in
+    pairs_here =
         let l = line_long in
-        storing_next s (hex_at (i + from) size g ∷ []) (ap (column from size) run_here ∙ rw (hex_part from size i end g (omega arith))) refl refl
+        ap (pairs_in kind) run_here ∙ rw (of_kind, hex_part 2 2 i end g (omega arith), hex_part 4 2 i end g (omega arith))
+
+    pub filling_next : {T : Type 0} {of : Pair → T} {before slice : List T} → Filling of kind g at i n before slice →
+        Filling of kind g at next (n + 1) before (set slice n (of (pair (hex_at (i + 2) 2 g) (hex_at (i + 4) 2 g))))
+    filling_next {of = of} {slice = slice} s =
+        record { rest = rw add-one (sym (ap (λ (xs : List Pair). sets slice n (map of xs)) pairs_here) ∙ s.rest) }
 
 pub stopped_over : (kind : ℕ) (g : List ℕ) (i : ℕ) → length g ≤ i → Stopped kind g i
 unfolding lines_of
 stopped_over kind g i o = rw (drop_of_length-le g o) (run_nil kind, past_nil kind)
 
--- WHAT IS STORED
-column_numbers : (ls : List (List ℕ)) → numbers_in ls ≡ column 2 4 ls
-unfolding numbers_in
-column_numbers [] = refl
-column_numbers (l ∷ ls) = ap (λ (xs : List ℕ). hex_at 2 4 l ∷ xs) (column_numbers ls)
-
+-- NUMBERS of four digits
 pub numbers_length : (ls : List (List ℕ)) → length (numbers_in ls) ≡ length ls
-numbers_length ls = rw (column_numbers ls) (length-map ls (hex_at 2 4))
+unfolding numbers_in
+numbers_length [] = refl
+numbers_length (l ∷ ls) = ap suc (numbers_length ls)
 
-column_firsts : (kind : ℕ) (ls : List (List ℕ)) → firsts_of (pairs_in kind (run_of kind ls)) ≡ column 2 2 (run_of kind ls)
-unfolding run_of pairs_in firsts_of
-column_firsts kind [] = refl
-column_firsts kind (l ∷ ls) = by_test (has_kind kind l) (λ e. rw (e, e, column_firsts kind ls)) (λ e. rw e)
+pub numbers_pairs : (k : ℕ) (ls : List (List ℕ)) → all (has_kind k) ls ≡ true → all (is_long 6) ls ≡ true → map number_of (pairs_in k ls) ≡ numbers_in ls
+unfolding numbers_in pairs_in all
+numbers_pairs k [] h g = refl
+numbers_pairs k (l ∷ ls) h g =
+    let d = and_two (is_long 6 l) (all (is_long 6) ls) g in
+    let e = and_two (has_kind k l) (all (has_kind k) ls) h in
+    let n : 6 ≤ length l = leb-true _ _ (and_left (leb 6 (length l)) (all is_digit l) d.0) in
+    rw (e.0, numbers_pairs k ls e.1 d.1, hex_four 2 l (omega arith))
 
-column_seconds : (kind : ℕ) (ls : List (List ℕ)) → seconds_of (pairs_in kind (run_of kind ls)) ≡ column 4 2 (run_of kind ls)
-unfolding run_of pairs_in seconds_of
-column_seconds kind [] = refl
-column_seconds kind (l ∷ ls) = by_test (has_kind kind l) (λ e. rw (e, e, column_seconds kind ls)) (λ e. rw e)
-
+-- WHAT IS STORED
 module _ {kind : ℕ} {g : List ℕ} {at i n : ℕ} (p : Passing kind g at i n) (stop : Stopped kind g i) where
   all_counted : n ≡ length (run_at kind g at)
   all_counted = omega (arith, p.counts, ap length stop.0)
@@ -161,39 +156,31 @@ module _ {kind : ℕ} {g : List ℕ} {at i n : ℕ} (p : Passing kind g at i n) 
         high = p.left.inside;
       }
 
-  all_filled : (from size : ℕ) {before slice : List ℕ} → Filling from size kind g at i n before slice → slice ≡ sets before 0 (column from size (run_at kind g at))
-  all_filled from size s = (storing_end s (ap (column from size) stop.0)).0
-
-  pub stored_pairs : {firsts seconds a b : List ℕ} → Filling 2 2 kind g at i n firsts a → Filling 4 2 kind g at i n seconds b →
-      length (run_at kind g at) ≤ length firsts → length (run_at kind g at) ≤ length seconds → StoredPairs kind g at firsts seconds a b n i
-  stored_pairs s t u v =
+  pub stored : {T : Type 0} {of : Pair → T} {before slice : List T} → Filling of kind g at i n before slice →
+      length (run_at kind g at) ≤ length before → Stored of kind g at before slice n i
+  unfolding pairs_in
+  stored {of = of} {before} {slice} s u =
       let l = run_pairs kind (lines_of (drop at g)) in
       record {
         passed = all_passed;
-        pairs =
+        entries =
             record {
-              first_room = rw l u;
-              second_room = rw l v;
-              firsts_are = rw (column_firsts kind (lines_of (drop at g))) (all_filled 2 2 s);
-              seconds_are = rw (column_seconds kind (lines_of (drop at g))) (all_filled 4 2 t);
+              room = simp length-map (omega arith);
+              entries_are = sym (ap (λ (ls : List (List ℕ)). sets slice n (map of (pairs_in kind ls))) stop.0) ∙ s.rest;
             };
       }
 
-  pub stored_numbers : {out a : List ℕ} → Filling 2 4 kind g at i n out a → length (run_at kind g at) ≤ length out →
-      StoredNumbers kind g at out a n i
-  stored_numbers s u =
-      let e = column_numbers (run_at kind g at) in
-      record {
-        passed = all_passed;
-        numbers = record { room = rw (numbers_length (run_at kind g at)) u; numbers_are = rw e (all_filled 2 4 s) };
-      }
+module _ {T : Type 0} {of : Pair → T} {kind : ℕ} {g : List ℕ} {at : ℕ} {before after : List T} {n turn : ℕ} (s : Stored of kind g at before after n turn) where
+  pub stored_as : (xs : List T) → map of (pairs_in kind (run_at kind g at)) ≡ xs → (n ≡ length xs) × StoredFirst xs before after
+  stored_as xs e = (
+    s.passed.counts ∙ sym (run_pairs kind (lines_of (drop at g))) ∙ sym (length-map (pairs_in kind (run_at kind g at)) of) ∙
+        ap (λ (ys : List T). length ys) e,
+    subst (λ (ys : List T). StoredFirst ys before after) e s.entries,
+  )
 
-pub stored_as : {kind : ℕ} {g : List ℕ} {at : ℕ} {us vs us' vs' : List ℕ} {n turn : ℕ} (xs : List Pair) →
-    StoredPairs kind g at us vs us' vs' n turn → pairs_in kind (run_at kind g at) ≡ xs → (n ≡ length xs) × PairsStored xs us vs us' vs'
-stored_as {kind} {g} {at} {us} {vs} {us'} {vs'} xs s e = (
-  s.passed.counts ∙ sym (run_pairs kind (lines_of (drop at g))) ∙ ap (λ (ys : List Pair). length ys) e,
-  subst (λ (ys : List Pair). PairsStored ys us vs us' vs') e s.pairs,
-)
+pub stored_pairs : {kind : ℕ} {g : List ℕ} {at : ℕ} {before after : List Pair} {n turn : ℕ} → Stored (λ (x : Pair). x) kind g at before after n turn →
+    (xs : List Pair) → pairs_in kind (run_at kind g at) ≡ xs → (n ≡ length xs) × StoredFirst xs before after
+stored_pairs {kind} {g} {at} s xs e = stored_as s xs (map-id (pairs_in kind (run_at kind g at)) ∙ e)
 
 pub storable_next : {kind : ℕ} {g : List ℕ} {at count next : ℕ} → Storable g at → RunPassed kind g at count next → Storable g next
 storable_next {kind} {g} {at} s p =

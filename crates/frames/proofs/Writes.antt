@@ -2,29 +2,33 @@
 --   sets_over                           a run of stores at the front: what is stored, then what stood behind it (document 03's `over`)
 --   written_rest, written_then          the same of what two calls wrote
 --   written_over                        the same of a text written at the front
---   hex_bytes_length, hex_bytes_split     digits: how many; four are the upper two and the lower two
+--   hex_bytes_length                    digits: how many
 --   two_value, four_value               what is read of a number that was written in two digits, and in four
---   frame4_length, frame6_length, frame_of4_length    how many bytes a frame takes
---   hex2_written, hex4_written          two digits as two stores; four as two writes
---   text_next, text_end                 a text written byte by byte: one more is, all are
---   barrier_line_frame                   the fixed bytes of the first line of a barrier are its frame
-use mathlib.Core.Path.{◌≡◌, refl, ◌∙◌}
-use mathlib.Core.List.{List, [], ◌∷◌, ◌++◌}
-use Prim.Native.Nat.{ℕ, zero, suc, ◌+◌, ◌/◌, ◌%◌, ◌≤◌, ◌<◌}
+--   frame4_length                       how many bytes a frame with one number takes
+--   frame_of4_parts                     a number of four digits is its upper two and its lower two
+--   text_end                            a text written part by part: all parts are
+--   frame_length                        how many bytes a frame of so many numbers takes
+--   FieldsWritten ..                    a frame written number by number: so many fields are
+--   kind_written, field_written, frame_written    the kind is; one field more is; all are, and the line feed
+--   frame_room                          there is room for the numbers left
+--   text_put                            a text written in one piece
+use mathlib.Core.Path.{◌≡◌, refl, ap, ◌∙◌}
+use mathlib.Core.List.{List, [], ◌∷◌, ◌++◌, append_assoc}
+use Prim.Native.Nat.{ℕ, zero, suc, ◌+◌, ◌*◌, ◌-◌, ◌/◌, ◌%◌, ◌≤◌, ◌<◌}
 use native.Mathlib.Omega.{arith}
 use native.Mathlib.Numerals.{add-one}
 use native.Mathlib.Nat.{zero-add}
 use lib.Dec.{ltb}
-use lib.ListN.{length, get_or, drop, set, length-append}
-use lib.Seq.{sets, sets-eq}
+use borrow.Rule.Slice.PartMut.{put_mid}
+use lib.ListN.{length, get_or, drop, set, length-append, length-drop, drop_of_length-le}
+use lib.Seq.{sets, sets-eq, drop-cons, drop-drop}
 use borrow.Author.Tests.{ltb-true, ltb-false, le-leb, lt-leb}
-use Rattle.formats.specs.Kinds.{barrier_kind}
 use Rattle.counting.proofs.Booleans.{by_test}
 use Rattle.counting.specs.Loops.{Storing}
-use Rattle.counting.proofs.Loops.{next_in, storing_next, storing_end}
+use Rattle.counting.proofs.Loops.{storing_start, storing_next, storing_end}
 use Rattle.counting.proofs.Stores.{sets_append}
-use Rattle.frames.specs.Frames.{digit_of, hex_from, digit_byte, hex_bytes, frame2, frame4, frame6, frame_of4}
-use Rattle.frames.specs.Writes.{Written, barrier_line}
+use Rattle.frames.specs.Frames.{digit_of, hex_from, digit_byte, hex_bytes, frame_bytes, frame4, frame_of4}
+use Rattle.frames.specs.Writes.{Written}
 
 -- ONE RUN BEHIND ANOTHER
 pub sets_over : (xs l : List ℕ) → length xs ≤ length l → sets l 0 xs ≡ xs ++ drop (length xs) l
@@ -56,12 +60,6 @@ hex_bytes_length (suc n) v = rw (length-append, hex_bytes_length n (v / 16)) (om
 pub frame4_length : (k a : ℕ) → length (frame4 k a) ≡ 5
 frame4_length k a = simp (length-append, hex_bytes_length)
 
-pub frame6_length : (k a b : ℕ) → length (frame6 k a b) ≡ 7
-frame6_length k a b = simp (length-append, hex_bytes_length)
-
-pub frame_of4_length : (k v : ℕ) → length (frame_of4 k v) ≡ 7
-frame_of4_length k v = simp (length-append, hex_bytes_length)
-
 -- DIGITS
 digit_value : (d : ℕ) → d < 16 → digit_of (digit_byte d) ≡ d
 digit_value d h =
@@ -84,11 +82,7 @@ four_value x h =
     let d = digit_value (x % 16) (omega arith) in
     rw (a, b, c, d) (omega arith)
 
-pub hex2_written : (l : List ℕ) (at v : ℕ) →
-    Written l at 2 (hex_bytes 2 v) (set (set l at (digit_byte (v / 16 % 16))) (at + 1) (digit_byte (v % 16))) (at + 2)
-unfolding hex_bytes
-hex2_written l at v = record { bytes = rw add-one; full = refl; place = refl }
-
+-- A NUMBER of four digits is written as two of two
 hex_bytes_split : (v : ℕ) → hex_bytes 2 (v / 256) ++ hex_bytes 2 v ≡ hex_bytes 4 v
 unfolding hex_bytes
 hex_bytes_split v =
@@ -96,19 +90,52 @@ hex_bytes_split v =
     let e : v / 256 ≡ v / 16 / 16 = omega arith in
     rw (d, e)
 
-pub hex4_written : {l m n : List ℕ} {at mid next : ℕ} (v : ℕ) → Written l at 2 (hex_bytes 2 (v / 256)) m mid →
-    Written m mid 2 (hex_bytes 2 v) n next → Written l at 4 (hex_bytes 4 v) n next
-hex4_written v a b = rw (hex_bytes_split v) at (written_then a b)
-
--- A TEXT, byte by byte or part by part
-pub text_next : {before text out : List ℕ} {at : ℕ} (i : ℕ) → i < length text → Storing before at text out (at + i) (drop i text) →
-    Storing before at text (set out (at + i) (get_or text i 0)) (at + (i + 1)) (drop (i + 1) text)
-text_next {text = text} i h s = storing_next s (get_or text i 0 ∷ []) (next_in text 0 i h).is refl (omega arith)
+pub frame_of4_parts : (k v : ℕ) → frame_bytes (k ∷ v / 256 ∷ v ∷ []) ≡ frame_of4 k v
+frame_of4_parts k v = rw (← hex_bytes_split v) (simp append_assoc)
 
 pub text_end : {before text out left : List ℕ} {at size next : ℕ} → Storing before at text out next left → left ≡ [] → length text ≡ size →
     Written before at size text out next
 text_end s e l = record { bytes = (storing_end s e).0; full = l; place = (storing_end s e).1 ∙ rw l }
 
-pub barrier_line_frame : barrier_line ≡ frame2 barrier_kind
-unfolding hex_bytes
-barrier_line_frame = refl
+-- A FRAME, number by number
+pub frame_length : (xs : List ℕ) → length (frame_bytes xs) ≡ 2 * length xs + 1
+frame_length [] = refl
+frame_length (x ∷ xs) = rw (length-append, hex_bytes_length 2 x, frame_length xs) (omega arith)
+
+-- the kind and so many fields are written; what is left is the others and the line feed
+pub record FieldsWritten (before : List ℕ) (at kind : ℕ) (fields : List ℕ) (i : ℕ) (out : List ℕ) (next : ℕ) : Type 0 where
+  pub stores : Storing before at (frame_bytes (kind ∷ fields)) out next (frame_bytes (drop i fields))
+
+pub kind_written : {before out : List ℕ} {at next : ℕ} (k : ℕ) (fields : List ℕ) → Written before at 2 (hex_bytes 2 k) out next →
+    FieldsWritten before at k fields 0 out next
+kind_written {before} {at = at} k fields w =
+    record {
+      stores =
+          storing_next (storing_start before at (frame_bytes (k ∷ fields))) (hex_bytes 2 k) refl w.bytes
+          (omega (arith, hex_bytes_length 2 k, w.place));
+    }
+
+module _ {before : List ℕ} {at kind : ℕ} {fields : List ℕ} {i : ℕ} {out : List ℕ} {next : ℕ} (w : FieldsWritten before at kind fields i out next)
+    (room : at + (2 * length fields + 3) ≤ length before) where
+  pub frame_room : next + (2 * (length fields - i) + 1) ≤ length out
+  frame_room =
+      omega (arith, room, w.stores.place, w.stores.long, frame_length (kind ∷ fields), frame_length (drop i fields), length-drop i fields)
+
+  pub field_written : {out' : List ℕ} {next' : ℕ} → i < length fields → Written out next 2 (hex_bytes 2 (get_or fields i 0)) out' next' →
+      FieldsWritten before at kind fields (i + 1) out' next'
+  field_written h v =
+      let x = get_or fields i 0 in
+      let e : drop i fields ≡ x ∷ drop (i + 1) fields = rw add-one (drop-cons fields i 0 h) in
+      record { stores = storing_next w.stores (hex_bytes 2 x) (ap frame_bytes e) v.bytes (omega (arith, hex_bytes_length 2 x, v.place)) }
+
+  pub frame_written : length fields ≤ i → Written before at (2 * length fields + 3) (frame_bytes (kind ∷ fields)) (set out next 10) (next + 1)
+  frame_written h =
+      text_end (storing_next w.stores (10 ∷ []) (ap frame_bytes (drop_of_length-le fields h)) refl refl) refl
+      (frame_length (kind ∷ fields) ∙ omega arith)
+
+-- A TEXT
+pub text_put : (l text : List ℕ) (at : ℕ) → at + length text ≤ length l →
+    Written l at (length text) text (put_mid at (at + length text - at) l text) (at + length text)
+text_put l text at h =
+    let n : at + length text - at ≡ length text = omega arith in
+    record { bytes = rw (n, sets-eq text l at h) (simp (append_assoc, drop-drop)); full = refl; place = refl }

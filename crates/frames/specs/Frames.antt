@@ -23,13 +23,15 @@
 --   pair_in l, pairs_in k ls                     a body frame as two numbers; the frames of one kind
 --   numbers_in ls                               body frames as a number each
 --   digit_byte d, hex_bytes n x                  a digit as it is written; x in n digits
---   frame2 k, frame4 k a, frame6 k a b, frame8 k a b c     frames as they are written: the kind alone, with one number, with two, with three
+--   frame_bytes xs                              a frame as it is written: each of its numbers in two digits, the kind's first
+--   frame2 k, frame4 k a, frame6 k a b, frame8 k a b c     the kind alone, with one number, with two, with three
 --   frame_of4 k v                               and with one number in four digits
 use Rattle.std.specs.Prelude.{Bool, true, false, ◌&&◌, ◌||◌, List, [], ◌∷◌, ◌++◌, ℕ, zero, suc, ◌+◌, ◌*◌, ◌-◌, ◌/◌, ◌%◌, ltb, leb, eqb, length, get_or, take, drop}
 use Rattle.formats.specs.Kinds.{arc_kind, barrier_end, barrier_kind, class_kind, fit_kind, graph_end, graph_kind, lit_kind, pair_kind, path_end, path_kind, plan_end, plan_kind, step_kind, stock_end, stock_kind}
 use Rattle.formats.specs.Limits.{file_most}
 use Rattle.counting.specs.Tests.{pick, all}
-use Rattle.counting.specs.Pairs.{Pair, pair}
+use Rattle.counting.specs.Pairs.{pair}
+use Rattle.counting.specs.declared.Pair.{Pair}
 
 abbrev pub is_in : (low high x : ℕ) → Bool
 is_in a b x = leb a x && leb x b
@@ -168,17 +170,21 @@ unfoldable pub hex_bytes : (size value : ℕ) → List ℕ
 hex_bytes zero x = []
 hex_bytes (suc n) x = hex_bytes n (x / 16) ++ (digit_byte (x % 16) ∷ [])
 
+abbrev pub frame_bytes : (numbers : List ℕ) → List ℕ
+frame_bytes [] = 10 ∷ []
+frame_bytes (x ∷ xs) = hex_bytes 2 x ++ frame_bytes xs
+
 abbrev pub frame2 : (kind : ℕ) → List ℕ
-frame2 k = hex_bytes 2 k ++ (10 ∷ [])
+frame2 k = frame_bytes (k ∷ [])
 
 abbrev pub frame4 : (kind a : ℕ) → List ℕ
-frame4 k a = hex_bytes 2 k ++ hex_bytes 2 a ++ (10 ∷ [])
+frame4 k a = frame_bytes (k ∷ a ∷ [])
 
 abbrev pub frame6 : (kind a b : ℕ) → List ℕ
-frame6 k a b = hex_bytes 2 k ++ hex_bytes 2 a ++ hex_bytes 2 b ++ (10 ∷ [])
+frame6 k a b = frame_bytes (k ∷ a ∷ b ∷ [])
 
 abbrev pub frame8 : (kind a b c : ℕ) → List ℕ
-frame8 k a b c = hex_bytes 2 k ++ hex_bytes 2 a ++ hex_bytes 2 b ++ hex_bytes 2 c ++ (10 ∷ [])
+frame8 k a b c = frame_bytes (k ∷ a ∷ b ∷ c ∷ [])
 
 abbrev pub frame_of4 : (kind value : ℕ) → List ℕ
 frame_of4 k v = hex_bytes 2 k ++ hex_bytes 4 v ++ (10 ∷ [])

@@ -1,6 +1,6 @@
 -- The shape of a file as it is read: the header's questions and the body's, and what is known of a file that they refuse nothing of
 -- (document 01, "Questions put to a call").
---   form_of layout, bodies_of first second        the form that a layout stands for; its body kinds, one where both are the same
+--   form_of layout, bodies_of first second        the form that a layout stands for; its body kinds, one or two
 --   first_kind, last_kind                         a form's body kinds
 --   last_of lines, before_last lines              the last of some lines, and those before it
 --   lines_fit kinds size end lines                question 6, of the lines after the header
@@ -10,28 +10,33 @@
 --   shape_questions form file z                   questions 2 to 7, z the answer to 5
 --   sized_questions form file z e                 questions 2 to 8, z the answer to 5 and e to 8
 --   certificate_questions form file e             the same of a certificate, which has no question 5
---   Counted number count firsts n c m             n is the number, c and m are the counts beside it
+--   no_lines, no_shape                            what stands beside a refusal
 --   HeaderAnswer, BodyAnswer, ShapeAnswer         what each reader answers: a number, and 0 beside a refusal
 --   Shaped form file next count firsts            all that is known where no question up to 7 is answered no
-use Rattle.std.specs.Prelude.{◌≡◌, Bool, true, ◌&&◌, List, [], ◌∷◌, ◌++◌, ℕ, ◌+◌, ◌-◌, ◌≤◌, ◌<◌, ltb, leb, eqb, length, get_or, take, drop}
+use Rattle.std.specs.Prelude.{◌≡◌, Option, Some, None, Bool, true, ◌&&◌, List, [], ◌∷◌, ◌++◌, ℕ, ◌+◌, ◌-◌, ◌≤◌, ◌<◌, ltb, leb, eqb, length, get_or, take, drop}
+use Rattle.formats.specs.Kinds.{kind_number}
+use Rattle.formats.specs.declared.kinds.Kind.{Kind}
 use Rattle.formats.specs.Limits.{file_most}
-use Rattle.counting.specs.Tests.{pick, all}
+use Rattle.counting.specs.Tests.{all}
 use Rattle.frames.specs.Frames.{lines_of, is_digit, is_whole_file, hex_at, Form, is_frame_of, first_line, rest_lines, last_line, body_lines, has_header, bodies_fit, shape_fault, pairs_in}
 use Rattle.frames.specs.Questions.{Question, ask, first_no, answered}
 use Rattle.frames.specs.Lines.{is_plain, line_after, LineAt}
 use Rattle.frames.specs.declared.shape.Layout.{Layout}
+use Rattle.frames.specs.declared.shape.Body.{Body}
+use Rattle.frames.specs.declared.shape.Shape.{Shape}
 
 -- FORMS
-abbrev pub bodies_of : (first second : ℕ) → List ℕ
-bodies_of a b = pick (eqb a b) (a ∷ []) (a ∷ b ∷ [])
+abbrev pub bodies_of : (first : Kind) → (second : Option Kind) → List ℕ
+bodies_of a None = kind_number a ∷ []
+bodies_of a (Some b) = kind_number a ∷ kind_number b ∷ []
 
 abbrev pub form_of : Layout → Form
 form_of l = record {
-  header = l.header;
+  header = kind_number l.header;
   header_size = l.header_size;
   bodies = bodies_of l.first l.second;
-  body_size = l.body_size;
-  end = l.end;
+  body_size = 4;
+  end = kind_number l.end;
 }
 
 abbrev pub first_kind : Form → ℕ
@@ -71,8 +76,8 @@ body_fault k ls = first_no (body_questions k ls)
 abbrev pub end_fault : (kind count : ℕ) → List ℕ → ℕ
 end_fault e n l = first_no (ask 6 (is_frame_of e 4 l) ∷ ask 7 (eqb (hex_at 2 4 l) n) ∷ [])
 
-abbrev pub Counted : (number count firsts n c m : ℕ) → Type 0
-Counted number count firsts n c m = (n ≡ number) × (c ≡ answered number count) × (m ≡ answered number firsts)
+abbrev pub no_lines : Body
+no_lines = record { count = 0; firsts = 0 }
 
 pub record BodyAnswer (k : Form) (g : List ℕ) (number count firsts : ℕ) : Type 0 where
   pub says : number ≡ body_fault k (lines_of g)
@@ -106,6 +111,9 @@ sized_questions k f z e = shape_questions k f z ++ ask 8 e ∷ []
 -- of a certificate, which has no question 5
 abbrev pub certificate_questions : Form → (file : List ℕ) → (size_fits : Bool) → List Question
 certificate_questions k f e = header_questions k f ++ body_questions k (rest_lines f) ++ ask 8 e ∷ []
+
+abbrev pub no_shape : Shape
+no_shape = record { next = 0; count = 0 }
 
 pub record ShapeAnswer (k : Form) (f : List ℕ) (number next count : ℕ) : Type 0 where
   pub says : number ≡ shape_fault k f true

@@ -6,13 +6,14 @@
 --   is_long size line                  the line is digits, at least so many
 --   Storable g at                      what storing asks of the lines from a place on: digits, as many as a body frame has at least
 --   RunPassed kind g at count next     the run that begins at `at` has `count` lines, and `next` is where it stops
---   PairsStored, NumbersStored xs ..   pairs stand at the front of two slices, or numbers of one, and nothing else differs
---   StoredPairs, StoredNumbers         a run's frames are stored so, as pairs or as numbers of four digits
-use Rattle.std.specs.Prelude.{◌≡◌, Bool, true, ◌&&◌, List, [], ◌∷◌, ℕ, ◌≤◌, eqb, leb, length, drop}
+--   StoredFirst xs before after        xs stand at the front of a slice, and nothing else differs
+--   Stored of kind g ..                a run's frames are stored so, each as `of` makes it of the frame's two numbers
+--   number_of x                        two numbers of two digits as one of four
+use Rattle.std.specs.Prelude.{◌≡◌, Bool, true, ◌&&◌, List, [], ◌∷◌, map, ℕ, ◌+◌, ◌*◌, ◌≤◌, eqb, leb, length, drop}
 use Rattle.std.proofs.lemmas.List.Edits.{sets}
 use Rattle.counting.specs.Tests.{pick, all}
-use Rattle.counting.specs.Pairs.{Pair, firsts_of, seconds_of}
-use Rattle.frames.specs.Frames.{lines_of, is_digit, kind_of, pairs_in, numbers_in}
+use Rattle.counting.specs.declared.Pair.{Pair}
+use Rattle.frames.specs.Frames.{lines_of, is_digit, kind_of, pairs_in}
 use Rattle.frames.specs.Lines.{past_lines}
 
 abbrev pub has_kind : (kind : ℕ) → List ℕ → Bool
@@ -43,20 +44,13 @@ pub record RunPassed (kind : ℕ) (g : List ℕ) (at count next : ℕ) : Type 0 
   pub low : at ≤ next
   pub high : next ≤ length g
 
-pub record PairsStored (xs : List Pair) (firsts seconds firsts_after seconds_after : List ℕ) : Type 0 where
-  pub first_room : length xs ≤ length firsts
-  pub second_room : length xs ≤ length seconds
-  pub firsts_are : firsts_after ≡ sets firsts 0 (firsts_of xs)
-  pub seconds_are : seconds_after ≡ sets seconds 0 (seconds_of xs)
+pub record StoredFirst {T : Type 0} (xs before after : List T) : Type 0 where
+  pub room : length xs ≤ length before
+  pub entries_are : after ≡ sets before 0 xs
 
-pub record NumbersStored (xs out out_after : List ℕ) : Type 0 where
-  pub room : length xs ≤ length out
-  pub numbers_are : out_after ≡ sets out 0 xs
-
-pub record StoredPairs (kind : ℕ) (g : List ℕ) (at : ℕ) (firsts seconds firsts_after seconds_after : List ℕ) (count next : ℕ) : Type 0 where
+pub record Stored {T : Type 0} (of : Pair → T) (kind : ℕ) (g : List ℕ) (at : ℕ) (before after : List T) (count next : ℕ) : Type 0 where
   pub passed : RunPassed kind g at count next
-  pub pairs : PairsStored (pairs_in kind (run_at kind g at)) firsts seconds firsts_after seconds_after
+  pub entries : StoredFirst (map of (pairs_in kind (run_at kind g at))) before after
 
-pub record StoredNumbers (kind : ℕ) (g : List ℕ) (at : ℕ) (out out_after : List ℕ) (count next : ℕ) : Type 0 where
-  pub passed : RunPassed kind g at count next
-  pub numbers : NumbersStored (numbers_in (run_at kind g at)) out out_after
+abbrev pub number_of : Pair → ℕ
+number_of x = 256 * x.first + x.second

@@ -1,60 +1,35 @@
 // Lines of a file: where one ends, and question 3. What ends a line is told by `line_end` alone; other control characters end none.
-//   byte_at          a byte, or 0
 //   line_end         the bytes that a line end takes
 //   first_control    the next control character
 //   Line, line_at    the line at a place
 //   whole            question 3
-ghost use Rattle.std.specs.Prelude.{◌≡◌, ◌+◌, ◌<◌, length, get_or, drop};
+ghost use Rattle.std.specs.Prelude.{◌≡◌, ◌+◌, ◌<◌, ◌≤◌, length, drop, MatchOption};
 ghost use Rattle.frames.specs.Frames.{is_whole_file};
 ghost use Rattle.frames.specs.Lines.{line_end, control_at, LineAt};
 
-use crate::numbers::digit_at;
+use crate::numbers::is_digit;
 
-// The bytes of a line end.
-const LINE_FEED: u8 = 10;
-
-const CARRIAGE_RETURN: u8 = 13;
-
-// The byte at `at`; past the file's end 0, which ends no line.
-fn byte_at(f: &[u8], at: usize) -> u8
-    ensures { result ≡ get_or f.now at 0 }
+// How many bytes the line end takes that stands at the front of `s`: 1 for a line feed, 2 for a carriage return and a line feed.
+#[tactic(auto, using(crate::proofs::LineEnds::front_feed, crate::proofs::LineEnds::front_both, crate::proofs::LineEnds::front_none))]
+fn line_end(s: &[u8]) -> Option<usize>
+    ensures { MatchOption result (line_end s.now ≡ 0) (λ n. (n ≡ line_end s.now) × (0 < n)) }
 {
-    if f.len() <= at {
-        return 0;
+    if s.starts_with(b"\n") {
+        Some(1)
+    } else if s.starts_with(b"\r\n") {
+        Some(2)
+    } else {
+        None // a carriage return alone, too
     }
-    f[at]
-}
-
-// How many bytes the line end takes that stands at `at`: 1 for a line feed, 2 for a carriage return and a line feed; 0 where none stands there.
-fn line_end(f: &[u8], at: usize) -> usize
-    ensures { result ≡ line_end (drop at f.now) }
-{
-    let c = byte_at(f, at);
-    if c == LINE_FEED {
-        return 1;
-    }
-    if c != CARRIAGE_RETURN {
-        return 0;
-    }
-    if byte_at(f, at + 1) != LINE_FEED {
-        return 0; // a carriage return alone
-    }
-    2
 }
 
 // The first place from `at` on with a control character, as both bytes of a line end are, or the file's end: one comparison passes a digit.
 fn first_control(f: &[u8], at: usize) -> usize
+    requires { at ≤ length f.now }
     ensures { result ≡ at + control_at (drop at f.now) }
 {
-    let mut i = at;
-    // invariant: specs/Lines control_at, of the whole and of what is left; falls: bytes left
-    while i < f.len() {
-        if f[i] < 32 {
-            return i;
-        }
-        i += 1;
-    }
-    i
+    let s = &f[at..];
+    at + s.iter().position(|c| *c < 32).unwrap_or(s.len())
 }
 
 // A line: where its bytes end, and where what follows its line end begins.
@@ -70,10 +45,10 @@ pub(crate) fn line_at(f: &[u8], from: usize) -> Line
     ensures { LineAt f.now from result.end result.next }
 {
     let mut end = first_control(f, from);
+    // kept: a place that jumps from one control character to the next
     // invariant: proofs/LinePlaces SameLine; falls: bytes left
     while end < f.len() {
-        let n = line_end(f, end);
-        if n != 0 {
+        if let Some(n) = line_end(&f[end..]) {
             return Line { end, next: end + n };
         }
         end = first_control(f, end + 1);
@@ -81,34 +56,23 @@ pub(crate) fn line_at(f: &[u8], from: usize) -> Line
     Line { end, next: end }
 }
 
-// Question 3: is the file made of whole lines, each a positive even number of digits? In one pass; `at` is where the first line
-// begins that is not known to be whole.
+// Question 3: is the file made of whole lines, each a positive even number of digits? In one pass, line by line.
 pub(crate) fn whole(f: &[u8]) -> bool
     ensures { result ≡ is_whole_file f.now }
 {
-    let mut at: usize = 0;
+    let mut at = 0;
+    // kept: a place that jumps by whole lines
     // invariant: specs/Frames is_whole_file, of the file and of what is left; falls: bytes left
-    'lines: while at < f.len() {
-        let mut i = at;
-        let mut n: usize = 0;
-        // invariant: proofs/WholeFiles DigitsUpTo; falls: bytes left, and 1 until the line end is found
-        while n == 0 {
-            if digit_at(f, i) {
-                i += 1;
-            } else {
-                n = line_end(f, i);
-                if n == 0 {
-                    break 'lines;
-                }
-            }
+    while at < f.len() {
+        let s = &f[at..];
+        let size = s.iter().position(|c| !is_digit(*c)).unwrap_or(s.len());
+        let Some(n) = line_end(&s[size..]) else {
+            return false;
+        };
+        if size == 0 || size % 2 != 0 {
+            return false;
         }
-        if i == at {
-            break 'lines;
-        }
-        if (i - at) % 2 != 0 {
-            break 'lines;
-        }
-        at = i + n;
+        at += size + n;
     }
-    at == f.len()
+    true
 }

@@ -1,53 +1,39 @@
 // Numbers of hexadecimal digits at a place of a file. Every byte has a value here; only question 3 tells digits from other bytes.
-//   digit_at, digit_value    a byte as a digit
-//   hex2, hex4               numbers of two and four digits
-ghost use Rattle.std.specs.Prelude.{◌≡◌, ◌+◌, ◌≤◌, length, get_or};
+//   is_digit, digit_value    a byte as a digit
+//   number_at                a number of some digits
+ghost use Rattle.std.specs.Prelude.{◌≡◌, ◌+◌, ◌≤◌, length};
 ghost use Rattle.frames.specs.Frames.{is_digit};
 ghost use Rattle.frames.specs.Numbers.{DigitValue, NumberAt};
 
-// Does a digit, 0 to 9 or A to F, stand at `at`? Past the file's end none does.
-pub(crate) fn digit_at(f: &[u8], at: usize) -> bool
-    ensures { result ≡ is_digit (get_or f.now at 0) }
+// Is the byte a digit, 0 to 9 or A to F?
+pub(crate) fn is_digit(c: u8) -> bool
+    ensures { result ≡ is_digit c }
 {
-    if f.len() <= at {
-        return false;
-    }
-    let c = f[at];
-    if c < 48 {
-        return false; // below the digit 0
-    }
-    if c <= 57 {
-        return true;
-    }
-    if c < 65 {
-        return false; // between 9 and A
-    }
-    c <= 70
+    matches!(c, b'0'..=b'9' | b'A'..=b'F')
 }
 
 // The value of a digit.
 fn digit_value(c: u8) -> usize
     ensures { DigitValue c result }
 {
-    if c <= 57 {
-        if c < 48 { 0 } else { (c - 48) as usize }
+    if c <= b'9' {
+        usize::from(c.saturating_sub(b'0'))
     } else {
-        (c - 55) as usize
+        usize::from(c - 55)
     }
 }
 
-// The number of the two digits at `at`.
-pub fn hex2(f: &[u8], at: usize) -> usize
-    requires { at + 2 ≤ length f.now }
-    ensures { NumberAt f.now at 2 result }
+// The number of the `N` digits at `at`.
+pub fn number_at<const N: usize>(f: &[u8], at: usize) -> usize
+    requires few { N ≤ 4 }
+    requires inside { at + N ≤ length f.now }
+    ensures { NumberAt f.now at N result }
 {
-    16 * digit_value(f[at]) + digit_value(f[at + 1])
-}
-
-// The number of the four digits at `at`.
-pub(crate) fn hex4(f: &[u8], at: usize) -> usize
-    requires { at + 4 ≤ length f.now }
-    ensures { NumberAt f.now at 4 result }
-{
-    256 * hex2(f, at) + hex2(f, at + 2)
+    let digits = &f[at..at + N];
+    let mut number = 0;
+    // invariant: the number of the digits passed, and its bound
+    for c in digits {
+        number = 16 * number + digit_value(*c);
+    }
+    number
 }

@@ -1,13 +1,16 @@
 // Frames written into a buffer that the caller lends (document 01, "Frames"). Each function writes at `at` and answers the place right behind what it
 // wrote, so that a run of calls writes a run of frames.
-//   digit_byte, put_hex2, put_hex4, put_line_feed             the parts of a frame
-//   put_frame2, put_frame4, put_frame6, put_frame8, put_frame_of4     frames
-//   put_text, begins_with                                     the bytes of a text, written and compared
-//   put_barrier_line, begins_barrier                          the first line of a barrier, written and compared
-ghost use Rattle.std.specs.Prelude.{◌≡◌, [], ◌∷◌, ◌+◌, ◌<◌, ◌≤◌, length};
-ghost use Rattle.formats.specs.Kinds.{barrier_kind};
-ghost use Rattle.frames.specs.Frames.{digit_byte, hex_bytes, frame2, frame4, frame6, frame8, frame_of4};
-ghost use Rattle.frames.specs.Writes.{Written, begins_with, begins_barrier};
+//   digit_byte, put_number                   a number in two digits
+//   put_frame_by                             a frame with numbers of two digits, of a kind by its number
+//   put_frame, put_frame_of4                 the same of a kind; and with one number of four digits
+//   put_text                                 the bytes of a text
+//   put_barrier_line, begins_barrier         the first line of a barrier, written and compared
+ghost use Rattle.std.specs.Prelude.{◌≡◌, [], ◌∷◌, ◌+◌, ◌*◌, ◌<◌, ◌≤◌, length};
+ghost use Rattle.formats.specs.Kinds.{kind_number, barrier_kind};
+ghost use Rattle.frames.specs.Frames.{digit_byte, hex_bytes, frame_bytes, frame2, frame_of4};
+ghost use Rattle.frames.specs.Writes.{Written, begins_barrier};
+
+use formats::kinds::Kind;
 
 // The first line of a barrier, written at the front and compared by the reader of certificates.
 const BARRIER_LINE: [u8; 3] = *b"31\n";
@@ -19,15 +22,12 @@ fn digit_byte(d: usize) -> u8
     requires { d < 16 }
     ensures { result ≡ digit_byte d }
 {
-    if d < 10 {
-        (48 + d) as u8
-    } else {
-        (55 + d) as u8
-    }
+    b"0123456789ABCDEF"[d]
 }
 
 // The two lowest digits of `value`.
-fn put_hex2(out: &mut [u8], at: usize, value: usize) -> usize
+#[tactic(auto, unfolding(crate::specs::Frames::hex_bytes))]
+fn put_number(out: &mut [u8], at: usize, value: usize) -> usize
     requires { at + 2 ≤ length out.old }
     ensures { Written out.old at 2 (hex_bytes 2 value) out.new result }
 {
@@ -36,102 +36,49 @@ fn put_hex2(out: &mut [u8], at: usize, value: usize) -> usize
     at + 2
 }
 
-// The four lowest digits of `value`.
-fn put_hex4(out: &mut [u8], at: usize, value: usize) -> usize
-    requires { at + 4 ≤ length out.old }
-    ensures { Written out.old at 4 (hex_bytes 4 value) out.new result }
+// The kind, by its number, each of the fields in two digits, and a line feed.
+// kept beside put_frame: a kind by its number, so that no more is asked of a caller than was
+pub fn put_frame_by(out: &mut [u8], at: usize, kind: usize, fields: &[usize]) -> usize
+    requires { at + (2 * length fields.now + 3) ≤ length out.old }
+    ensures { Written out.old at (2 * length fields.now + 3) (frame_bytes (kind ∷ fields.now)) out.new result }
 {
-    let low = put_hex2(out, at, value / 256);
-    put_hex2(out, low, value)
+    let mut next = put_number(out, at, kind);
+    // invariant: proofs/Writes FieldsWritten
+    for field in fields {
+        next = put_number(out, next, *field);
+    }
+    out[next] = b'\n';
+    next + 1
 }
 
-fn put_line_feed(out: &mut [u8], at: usize) -> usize
-    requires { at < length out.old }
-    ensures { Written out.old at 1 (10 ∷ []) out.new result }
+pub fn put_frame(out: &mut [u8], at: usize, kind: Kind, fields: &[usize]) -> usize
+    requires { at + (2 * length fields.now + 3) ≤ length out.old }
+    ensures { Written out.old at (2 * length fields.now + 3) (frame_bytes (kind_number kind ∷ fields.now)) out.new result }
 {
-    out[at] = 10;
-    at + 1
+    put_frame_by(out, at, usize::from(kind), fields)
 }
 
-pub fn put_frame2(out: &mut [u8], at: usize, kind: usize) -> usize
-    requires { at + 3 ≤ length out.old }
-    ensures { Written out.old at 3 (frame2 kind) out.new result }
-{
-    let end = put_hex2(out, at, kind);
-    put_line_feed(out, end)
-}
-
-pub fn put_frame4(out: &mut [u8], at: usize, kind: usize, a: usize) -> usize
-    requires { at + 5 ≤ length out.old }
-    ensures { Written out.old at 5 (frame4 kind a) out.new result }
-{
-    let first = put_hex2(out, at, kind);
-    let end = put_hex2(out, first, a);
-    put_line_feed(out, end)
-}
-
-pub fn put_frame6(out: &mut [u8], at: usize, kind: usize, a: usize, b: usize) -> usize
+// The kind, and one number in four digits: its upper two, then its lower two.
+#[tactic(auto, using(crate::proofs::Writes::frame_of4_parts))]
+pub fn put_frame_of4(out: &mut [u8], at: usize, kind: Kind, value: usize) -> usize
     requires { at + 7 ≤ length out.old }
-    ensures { Written out.old at 7 (frame6 kind a b) out.new result }
+    ensures { Written out.old at 7 (frame_of4 (kind_number kind) value) out.new result }
 {
-    let first = put_hex2(out, at, kind);
-    let second = put_hex2(out, first, a);
-    let end = put_hex2(out, second, b);
-    put_line_feed(out, end)
-}
-
-pub fn put_frame8(out: &mut [u8], at: usize, kind: usize, a: usize, b: usize, c: usize) -> usize
-    requires { at + 9 ≤ length out.old }
-    ensures { Written out.old at 9 (frame8 kind a b c) out.new result }
-{
-    let first = put_hex2(out, at, kind);
-    let second = put_hex2(out, first, a);
-    let third = put_hex2(out, second, b);
-    let end = put_hex2(out, third, c);
-    put_line_feed(out, end)
-}
-
-pub fn put_frame_of4(out: &mut [u8], at: usize, kind: usize, value: usize) -> usize
-    requires { at + 7 ≤ length out.old }
-    ensures { Written out.old at 7 (frame_of4 kind value) out.new result }
-{
-    let first = put_hex2(out, at, kind);
-    let end = put_hex4(out, first, value);
-    put_line_feed(out, end)
+    put_frame(out, at, kind, &[value / 256, value])
 }
 
 // All bytes of `text`.
+#[tactic(auto, using(crate::proofs::Writes::text_put))]
 pub fn put_text(out: &mut [u8], at: usize, text: &[u8]) -> usize
     requires { at + length text.now ≤ length out.old }
     ensures { Written out.old at (length text.now) text.now out.new result }
 {
-    let mut i: usize = 0;
-    // invariant: counting/specs/Loops Storing, of the text and of what is left of it; falls: bytes of the text left
-    while i < text.len() {
-        out[at + i] = text[i];
-        i += 1;
-    }
-    at + i
+    let next = at + text.len();
+    out[at..next].copy_from_slice(text);
+    next
 }
 
-// Are the first bytes of `f` those of `text`?
-fn begins_with(f: &[u8], text: &[u8]) -> bool
-    ensures { result ≡ begins_with text.now f.now }
-{
-    if f.len() < text.len() {
-        return false;
-    }
-    let mut i: usize = 0;
-    // invariant: specs/Writes begins_with, of the text and of what is left; falls: bytes of the text left
-    while i < text.len() {
-        if f[i] != text[i] {
-            return false;
-        }
-        i += 1;
-    }
-    true
-}
-
+#[tactic(auto, unfolding(crate::specs::Frames::hex_bytes))]
 pub fn put_barrier_line(out: &mut [u8], at: usize) -> usize
     requires { at + 3 ≤ length out.old }
     ensures { Written out.old at 3 (frame2 barrier_kind) out.new result }
@@ -142,8 +89,5 @@ pub fn put_barrier_line(out: &mut [u8], at: usize) -> usize
 pub fn begins_barrier(f: &[u8]) -> bool
     ensures { result ≡ begins_barrier f.now }
 {
-    if begins_with(f, &BARRIER_LINE) {
-        return true;
-    }
-    begins_with(f, &BARRIER_LINE_CR_LF)
+    f.starts_with(&BARRIER_LINE) || f.starts_with(&BARRIER_LINE_CR_LF)
 }

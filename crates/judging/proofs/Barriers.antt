@@ -1,86 +1,58 @@
 -- Tables of classes judged class by class, and the arcs that enter a class counted.
---   fit_same, fit_from_a, fit_into_a, fit_else    the pairs of classes between which an arc may go
---   table_long, table_arc                         as many arcs as tails; the arc at a place of the table
---   largest_start, _more, _same, _end             the largest class, from the last one down
---   counting_start, _enters, _passes, _end        the counters, one arc more
---   counting_small                                no counter is larger than the number of arcs
---   entered_start, _next, _fails                  the classes from 3 on
---   entered_counted                               judged by counters
-use mathlib.Core.Path.{◌≡◌, refl, sym, ap, ◌∙◌}
-use mathlib.Core.Logic.{◌≢◌, ⊎_elim}
-use mathlib.Core.Bool.{true, false, ◌&&◌, ◌||◌, not}
-use mathlib.Core.List.{List, [], ◌∷◌}
-use Prim.Native.Nat.{ℕ, zero, suc, ◌+◌, ◌-◌, ◌≤◌, ◌<◌}
-use native.Mathlib.Omega.{arith}
-use lib.Dec.{ltb, eqb}
-use lib.ListN.{length, get_or, drop, set, length-set, drop_of_length-le, replicate, length-replicate, get_or-replicate}
-use lib.Seq.{drop-cons, drop-length, get_or-set_same, get_or-set_other}
-use borrow.Author.Tests.{eqb-true, eqb-false, eq-eqb, ne_eqb, le-leb, lt-ltb, le-ltb}
-use Rattle.counting.specs.Tests.{pick, all, up_from, below}
-use Rattle.counting.specs.Pairs.{zip_pairs}
-use Rattle.counting.specs.Loops.{Next, Judged}
-use Rattle.counting.proofs.Booleans.{by_test, same_or}
-use Rattle.counting.proofs.Loops.{next_below, judged_next, judged_fails}
-use Rattle.counting.proofs.Membership.{all_same}
-use Rattle.counting.proofs.Range.{in_up}
-use Rattle.skew.specs.Graph.{Arc, arc, arcs_of, class_at, isXM, largest_of, entries_into}
-use Rattle.skew.specs.Barrier.{classes_fit}
-use Rattle.skew.proofs.Arcs.{zipped_length, next_arc}
+--   arc_low                                    the ends of the arc at a place
+--   each_below, each_of                        a test of each number below a bound, of each element of a list
+--   all_allowed                                arc_allowed is arc_fits
+--   largest_found, largest_or                  the largest class
+--   counting_start, _enters, _passes, _end     the counters, one arc more
+--   counting_small                             no counter is larger than the number of arcs
+--   entered_from, entered_counted              the classes from 3 on; judged by counters
+use Rattle.std.proofs.Common.{◌≡◌, ◌≢◌, ◌↔◌, IsTrue, EachIndex, SomeIndex, MatchOption, Option, None, Some, refl, sym, ap, ◌∙◌, Bool, ◌&&◌, ◌||◌, List, [], ◌∷◌, ℕ, suc, ◌+◌, ◌≤◌, ◌<◌, arith, length, get_or, drop, set, replicate, add-one, length-set, get_or-set_same, get_or-set_other, drop-cons, eqb, ltb}
+use Rattle.std.proofs.lemmas.List.{get_or_default, length-replicate, get_or-replicate}
+use Rattle.std.specs.Option.{unwrap_or}
+use mathlib.Core.Logic.{⊎_elim}
+use borrow.Author.Tests.{eqb-true, eq-eqb, ne_eqb, ltb-false, le-ltb}
+use lib.ListN.{drop_of_length-le}
+use Rattle.counting.specs.Tests.{pick, all, below}
+use Rattle.counting.proofs.Booleans.{by_test, same_or, test_same}
+use Rattle.counting.proofs.Membership.{all_same, all_each, each_all, all_get_d, get_d_all}
+use Rattle.counting.proofs.Range.{in_up, up_in}
+use Rattle.skew.specs.Graph.{no_arc, class_at, largest_of, arc_fits, entries_into}
+use Rattle.skew.proofs.Classes.{class_largest, largest_is}
+use Rattle.skew.specs.declared.Arc.{Arc}
 use Rattle.arcs.specs.Table.{Covers}
-use Rattle.judging.specs.Barriers.{entered_once, all_entered, ArcAt, Counting, LargestFrom}
-
--- ARCS THAT FIT
--- a class that is neither A nor A' is M or an Xi
-other_xm : (a : ℕ) → a ≢ 1 → a ≢ 2 → isXM a ≡ true
-other_xm zero h k = refl
-other_xm (suc a) h k = rw (le-leb 3 (suc a) (omega arith))
-
-pub fit_same : (a b : ℕ) → a ≡ b → classes_fit a b ≡ true
-fit_same a b e = rw (← e, eq-eqb a a refl) (by_test (eqb a 1) (λ t. rw (eqb-true a 1 t)) (λ t. rw t (by_test (isXM a) (λ s. rw s) (λ s. rw s))))
-
-pub fit_from_a : (b : ℕ) → b ≢ 2 → classes_fit 1 b ≡ not (eqb b 0)
-fit_from_a b h = rw (ne_eqb b 2 h)
-
-module _ (a : ℕ) (h : a ≢ 1) (k : a ≢ 2) where
-  pub fit_into_a : classes_fit a 1 ≡ true
-  fit_into_a = rw (other_xm a h k, ne_eqb a 1 h)
-
-  pub fit_else : (b : ℕ) → a ≢ b → b ≢ 1 → classes_fit a b ≡ eqb b 2
-  fit_else b n l =
-      rw (other_xm a h k, ne_eqb a 1 h, ne_eqb a b n)
-      (by_test (eqb b 2) (λ t. rw (eqb-true b 2 t)) (λ t. rw (t, other_xm b l (eqb-false b 2 t))))
+use Rattle.judging.specs.Barriers.{arc_allowed, entered_once, all_entered, Counting}
 
 -- ARCS AT THEIR PLACES
-module _ {ts hs : List ℕ} {n : ℕ} (T : Covers ts hs n) where
-  pub table_long : length (arcs_of (zip_pairs ts hs)) ≡ length ts
-  table_long = zipped_length ts hs T.same
+module _ {xs : List Arc} {n : ℕ} (T : Covers xs n) where
+  pub arc_low : (x : Arc) (i : ℕ) → i < length xs → x ≡ get_or xs i x → (x.tail < n) × (x.head < n)
+  arc_low x i l e = let q : x ≡ get_or xs i no_arc = e ∙ get_or_default xs i x no_arc l in rw q (T.tails i l, T.heads i l)
 
-  pub table_arc : {i t h : ℕ} → i < length ts → t ≡ get_or ts i 0 → h ≡ get_or hs i 0 → ArcAt ts hs n i t h
-  table_arc {i} l tail head =
-      record { next = rw (tail, head) (next_arc ts hs i T.same l); tail_low = omega (arith, T.tails i l); head_low = omega (arith, T.heads i l) }
+-- A TEST OF EACH
+pub each_below : (f : ℕ → Bool) (n : ℕ) (r : Bool) → (IsTrue r ↔ ((v : ℕ) → v < n → IsTrue (f v))) → r ≡ all f (below n)
+each_below f n r e =
+    test_same r (all f (below n)) (λ t. each_all f (below n) (λ v m. e.0 t v (omega (arith, in_up 0 n v m))))
+    (λ t. e.1 (λ v l. all_each f (below n) t v (up_in 0 n v (omega arith) (omega arith))))
+
+pub each_of : {A : Type 0} (f : A → Bool) (xs : List A) (d : A) (r : Bool) → (IsTrue r ↔ EachIndex xs (λ k. IsTrue (f (get_or xs k d)))) → r ≡ all f xs
+each_of f xs d r e = test_same r (all f xs) (λ t. get_d_all f xs d (e.0 t)) (λ t. e.1 (λ k l. all_get_d f xs d k t l))
+
+pub all_allowed : (cs : List ℕ) (xs : List Arc) → all (arc_allowed cs) xs ≡ all (arc_fits cs) xs
+unfolding arc_allowed
+all_allowed cs xs = refl
 
 -- THE LARGEST CLASS
-pub largest_start : (cs : List ℕ) → LargestFrom cs (length cs) 0
+-- m is as large as each class, and is one of them
+pub largest_found : (cs : List ℕ) (m : ℕ) → EachIndex cs (λ k. get_or cs k 0 ≤ m) → SomeIndex cs (λ k. get_or cs k 0 ≡ m) → m ≡ largest_of cs
+largest_found cs m most some =
+    ⊎_elim (λ (z : largest_of cs ≡ 0). omega (arith, some.2, class_largest cs some.0))
+    (λ n. let i = largest_is cs (omega arith) in omega (arith, some.2, class_largest cs some.0, most i.0 i.1, i.2)) (same_or (largest_of cs) 0)
+
+pub largest_or : (cs : List ℕ) (o : Option ℕ) → MatchOption o (length cs ≡ 0) (λ m. EachIndex cs (λ k. get_or cs k 0 ≤ m)) →
+    MatchOption o (length cs ≡ 0) (λ m. SomeIndex cs (λ k. get_or cs k 0 ≡ m)) → unwrap_or o 0 ≡ largest_of cs
 unfolding largest_of
-largest_start cs = record { within = omega arith; is = rw (drop-length cs) }
-
-module _ {cs : List ℕ} {k top : ℕ} (L : LargestFrom cs k top) where
-  pub largest_end : k ≤ 0 → top ≡ largest_of cs
-  largest_end l = let e : k ≡ 0 = omega arith in rw e at L.is
-
-  module _ (p : 0 < k) where
-    largest_step : largest_of (drop (k - 1) cs) ≡ pick (ltb top (get_or cs (k - 1) 0)) (get_or cs (k - 1) 0) top
-    unfolding largest_of
-    largest_step =
-        let q : suc (k - 1) ≡ k = omega arith in
-        let s : drop (k - 1) cs ≡ get_or cs (k - 1) 0 ∷ drop k cs = drop-cons cs (k - 1) 0 (omega (arith, L.within)) ∙ rw q in
-        rw (s, L.is)
-
-    pub largest_more : top < get_or cs (k - 1) 0 → LargestFrom cs (k - 1) (get_or cs (k - 1) 0)
-    largest_more h = record { within = omega (arith, L.within); is = rw (largest_step, lt-ltb top (get_or cs (k - 1) 0) h) }
-
-    pub largest_same : get_or cs (k - 1) 0 ≤ top → LargestFrom cs (k - 1) top
-    largest_same h = record { within = omega (arith, L.within); is = rw (largest_step, le-ltb top (get_or cs (k - 1) 0) h) }
+largest_or [] None e d = refl
+largest_or (c ∷ cs) None e d = absurd (omega arith)
+largest_or cs (Some m) e d = largest_found cs m e d
 
 -- ENTRIES COUNTED
 entries_le : (cs : List ℕ) (c : ℕ) (xs : List Arc) → entries_into cs c xs ≤ length xs
@@ -101,10 +73,11 @@ module _ {cs es : List ℕ} {xs : List Arc} {i : ℕ} (C : Counting cs xs es i) 
   pub counting_small : (c : ℕ) → c < 256 → get_or es c 0 ≤ length xs
   counting_small c h = omega (arith, C.counts c h, entries_le cs c xs)
 
-  module _ {t h : ℕ} (N : Next xs i (arc t h)) where
+  -- the arc at hand leads from t to h
+  module _ (l : i < length xs) {t h : ℕ} (et : t ≡ (get_or xs i no_arc).tail) (eh : h ≡ (get_or xs i no_arc).head) where
     entries_step : (c : ℕ) → entries_into cs c (drop i xs) ≡ pick (eqb (class_at cs t) 1 && eqb (class_at cs h) c) 1 0 + entries_into cs c (drop (i + 1) xs)
     unfolding entries_into
-    entries_step c = rw N.is
+    entries_step c = rw (add-one, drop-cons xs i no_arc l, et, eh)
 
     pub counting_enters : {b : ℕ} → b < 256 → class_at cs t ≡ 1 → b ≡ class_at cs h → Counting cs xs (set es b (get_or es b 0 + 1)) (i + 1)
     counting_enters {b} m from into =
@@ -131,26 +104,21 @@ module _ {cs es : List ℕ} {xs : List Arc} {i : ℕ} (C : Counting cs xs es i) 
               (same_or c b);
         }
 
-    pub counting_passes : class_at cs t ≢ 1 → Counting cs xs es (i + 1)
-    counting_passes n = record { long = C.long; counts = λ c k. omega (arith, C.counts c k, rw (ne_eqb (class_at cs t) 1 n) at (entries_step c)) }
+  pub counting_passes : i < length xs → class_at cs (get_or xs i no_arc).tail ≢ 1 → Counting cs xs es (i + 1)
+  counting_passes l n =
+      record {
+        long = C.long;
+        counts = λ c k. omega (arith, C.counts c k, rw (ne_eqb (class_at cs (get_or xs i no_arc).tail) 1 n) at (entries_step l refl refl c));
+      }
 
 -- EACH CLASS ENTERED ONCE
 -- classes below 3 have no entries to count
-pub entered_start : (es : List ℕ) (top : ℕ) → Judged (entered_once es) (below (suc top)) 3
-unfolding all up_from
-entered_start es zero = record { asks = refl }
-entered_start es (suc zero) = record { asks = refl }
-entered_start es (suc (suc top)) = record { asks = refl }
-
-module _ (es : List ℕ) {top c : ℕ} (J : Judged (entered_once es) (below (suc top)) c) (l : 3 ≤ c) (h : c ≤ top) where
-  entered_at : entered_once es c ≡ eqb (get_or es c 0) 1
-  entered_at = rw (le-ltb c 3 l)
-
-  pub entered_next : get_or es c 0 ≡ 1 → Judged (entered_once es) (below (suc top)) (c + 1)
-  entered_next e = judged_next J (next_below (suc top) c (omega arith)) (entered_at ∙ eq-eqb (get_or es c 0) 1 e)
-
-  pub entered_fails : get_or es c 0 ≢ 1 → false ≡ all_entered es top
-  entered_fails n = judged_fails J (next_below (suc top) c (omega arith)) (entered_at ∙ ne_eqb (get_or es c 0) 1 n)
+pub entered_from : (es : List ℕ) (top : ℕ) (r : Bool) → (IsTrue r ↔ ((c : ℕ) → 3 ≤ c → c ≤ top → get_or es c 0 ≡ 1)) → r ≡ all_entered es top
+entered_from es top r e =
+    each_below (entered_once es) (suc top) r (
+      (λ t c l. by_test (ltb c 3) (λ q. rw q) (λ q. rw (q, eq-eqb (get_or es c 0) 1 (e.0 t c (ltb-false c 3 q) (omega arith))))),
+      (λ h. e.1 (λ c low l. eqb-true (get_or es c 0) 1 (rw (le-ltb c 3 low) at (h c (omega arith))))),
+    )
 
 -- counters that hold the entries of each class judge as the entries do
 pub entered_counted : (es cs : List ℕ) (xs : List Arc) (top : ℕ) → top < 256 → ((c : ℕ) → c < 256 → get_or es c 0 ≡ entries_into cs c xs) →

@@ -1,33 +1,26 @@
 -- A run of arcs judged arc by arc.
 --   wanted_from_lem                is_wanted, arc by arc from the source
---   table_lent                     an arc table is one that a path may be judged by
 --   marks_none, marks_more         tables of marks: empty, and with one number more
 --   walking_start, _next           the loop that judges
---   walking_inside                 the next arc is one of the table
---   walking_there, _elsewhere      no arc is left: at the source's mate, or at another node
+--   walking_end                    no arc is left
+--   walking_listed, _few           the next arc is one of the table; so few are there
 --   walking_apart, _seen, _used    an arc that starts elsewhere than the last one ended, leads to a node seen, has its mate used
-use mathlib.Core.Path.{◌≡◌, refl, ap, ◌∙◌}
-use mathlib.Core.Logic.{◌≢◌, ⊎_elim}
-use mathlib.Core.Bool.{true, false, ◌&&◌, not}
-use mathlib.Core.List.{List, [], ◌∷◌}
-use Prim.Native.Nat.{ℕ, suc, ◌+◌, ◌≤◌, ◌<◌}
-use native.Mathlib.Numerals.{add-one}
-use native.Mathlib.Omega.{arith}
-use lib.Dec.{ltb, eqb}
-use lib.ListN.{length, get_or, drop, set, length-set, drop_of_length-le, replicate, length-replicate, get_or-replicate, get_or-eq_default}
-use lib.Seq.{drop-cons, get_or-set_same, get_or-set_other}
-use borrow.Author.Tests.{eqb-true, eq-eqb, ne_eqb, ltb-true, ltb-false, lt-ltb}
+use Rattle.std.proofs.Common.{◌≡◌, ◌≢◌, refl, ◌∙◌, Bool, true, false, ◌&&◌, not, List, [], ◌∷◌, ℕ, zero, suc, ◌+◌, ◌≤◌, ◌<◌, arith, add-one, length, get_or, drop, set, replicate, length-set, drop-cons, get_or-set_same, get_or-set_other, eqb}
+use Rattle.std.proofs.lemmas.List.{length-replicate}
+use mathlib.Core.Logic.{⊎_elim}
+use lib.ListN.{drop_of_length-le}
+use borrow.Author.Tests.{eqb-true, eq-eqb, ne_eqb, ltb-true, lt-ltb}
 use Rattle.formats.specs.Limits.{arcs_most}
 use Rattle.counting.specs.Tests.{among}
-use Rattle.counting.proofs.Booleans.{and_two, and_five, and_both, test_same, by_test, same_or}
+use Rattle.counting.proofs.Booleans.{and_two, and_five, and_both, test_same, same_or}
 use Rattle.counting.proofs.Membership.{not_among_out, out_not_among}
-use Rattle.skew.specs.Graph.{Arc, Graph, mate, end_of, is_regular, is_wanted}
+use Rattle.skew.specs.Graph.{Graph, no_arc, mate, end_of, is_regular, is_wanted}
+use Rattle.skew.specs.declared.Arc.{Arc}
 use Rattle.skew.specs.Paths.{tail, head}
-use Rattle.skew.proofs.Arcs.{zipped_length, zipped_at}
 use Rattle.skew.proofs.Mates.{mate_below}
 use Rattle.skew.proofs.Reachable.{Tried, tried_regular, regular_tried}
-use Rattle.arcs.specs.Table.{table_graph, ArcTable}
-use Rattle.judging.specs.Walks.{wanted_from, ArcsLent, PathLent, ArcInside, Marks, Walking}
+use Rattle.arcs.specs.Table.{graph}
+use Rattle.judging.specs.Walks.{wanted_from, PathLent, Marks, Walking}
 
 -- ARC BY ARC
 module _ (g : Graph) where
@@ -64,102 +57,75 @@ module _ (g : Graph) where
       let r = tried_regular g _ is (wanted_tried g.source (g.source ∷ []) [] is e) in
       and_both (is_regular g is) _ r.0 (eq-eqb (end_of g g.source is) (mate g.source) r.1))
 
--- TABLES
-pub table_lent : {n s : ℕ} {ts hs : List ℕ} → ArcTable n s ts hs → ArcsLent s ts hs
-table_lent T = record { source_byte = omega (arith, T.well_formed.source_node, T.pairs_few); as_long = T.as_long; arcs_few = T.arcs_few }
-
 -- MARKS
-pub marks_none : (n : ℕ) → Marks (replicate n 0) []
+pub marks_none : (n : ℕ) → Marks (replicate n false) []
 unfolding among
-marks_none n x =
-    by_test (ltb x n) (λ t. rw (get_or-replicate {A = ℕ} n x 0 0 (ltb-true x n t)))
-    (λ t. rw (get_or-eq_default {A = ℕ} (replicate n 0) 0 {n = x} (omega (arith, length-replicate {A = ℕ} n 0, ltb-false x n t))))
+marks_none zero x = refl
+marks_none (suc n) zero = refl
+marks_none (suc n) (suc x) = marks_none n x
 
-pub marks_more : (t xs : List ℕ) (y : ℕ) → Marks t xs → y < length t → Marks (set t y 1) (y ∷ xs)
+pub marks_more : (t : List Bool) (xs : List ℕ) (y : ℕ) → Marks t xs → y < length t → Marks (set t y true) (y ∷ xs)
 unfolding among
 marks_more t xs y M l x =
-    ⊎_elim (λ (e : x ≡ y). rw (eq-eqb x y e, e, get_or-set_same t y 1 0 l))
-    (λ n. rw (ne_eqb x y n, get_or-set_other t y x 1 0 n) (M x)) (same_or x y)
+    ⊎_elim (λ (e : x ≡ y). rw (eq-eqb x y e, e, get_or-set_same t y true false l))
+    (λ n. rw (ne_eqb x y n, get_or-set_other t y x true false n) (M x)) (same_or x y)
 
 -- THE LOOP
-pub walking_start : {s : ℕ} {ts hs path : List ℕ} → PathLent s ts hs path → Walking s ts hs path 0 s (set (replicate 256 0) s 1) (replicate arcs_most 0)
-walking_start {s} {ts} {hs} {path} L =
+pub walking_start : {s : ℕ} {xs : List Arc} {path : List ℕ} → PathLent s xs path →
+    Walking s xs path 0 s (set (replicate 256 false) s true) (replicate arcs_most false)
+walking_start {s} {xs} {path} L =
     record {
       lent = L;
       nodes = s ∷ [];
       arcs = [];
-      nodes_marked = marks_more (replicate 256 0) [] s (marks_none 256) (omega (arith, L.arcs.source_byte, length-replicate {A = ℕ} 256 0));
+      nodes_marked = marks_more (replicate 256 false) [] s (marks_none 256) (omega (arith, L.arcs.source_byte, length-replicate {A = Bool} 256 false));
       arcs_marked = marks_none arcs_most;
-      seen_long = length-set (replicate 256 0) s 1 ∙ length-replicate {A = ℕ} 256 0;
-      used_long = length-replicate {A = ℕ} arcs_most 0;
-      rest = λ n. wanted_from_lem (table_graph n s ts hs) path;
+      seen_long = length-set (replicate 256 false) s true ∙ length-replicate {A = Bool} 256 false;
+      used_long = length-replicate {A = Bool} arcs_most false;
+      rest = λ n. wanted_from_lem (graph n s xs) path;
     }
 
-module _ {s : ℕ} {ts hs path : List ℕ} {k v : ℕ} {t u : List ℕ} (W : Walking s ts hs path k v t u) where
-  -- no arc is left
-  module _ (l : length path ≤ k) {m : ℕ} (em : m ≡ mate s) (n : ℕ) where
-    walking_end : is_wanted (table_graph n s ts hs) path ≡ eqb v m
-    unfolding wanted_from
-    walking_end = W.rest n ∙ rw (drop_of_length-le path {i = k} l, em)
-
-    pub walking_elsewhere : v ≢ m → false ≡ is_wanted (table_graph n s ts hs) path
-    walking_elsewhere q = rw (walking_end, ne_eqb v m q)
-
-    pub walking_there : v ≡ m → true ≡ is_wanted (table_graph n s ts hs) path
-    walking_there e = rw (walking_end, eq-eqb v m e)
+module _ {s : ℕ} {xs : List Arc} {path : List ℕ} {k v : ℕ} {t u : List Bool} (W : Walking s xs path k v t u) where
+  pub walking_end : length path ≤ k → (n : ℕ) → is_wanted (graph n s xs) path ≡ eqb v (mate s)
+  unfolding wanted_from
+  walking_end l n = W.rest n ∙ rw (drop_of_length-le path {i = k} l)
 
   -- the next arc i goes from x to y, and m is its mate
-  module _ (l : k < length path) where
-    abbrev i : ℕ
-    i = get_or path k 0
+  module _ (l : k < length path) {i : ℕ} (ei : i ≡ get_or path k 0) where
+    walking_listed : i < length xs
+    walking_listed = rw ei (W.lent.inside k l)
 
-    pub walking_inside : ArcInside ts i
-    walking_inside =
-        let low = W.lent.inside k l in
-        let few : i < arcs_most = omega (arith, W.lent.arcs.arcs_few) in
-        record { listed = low; few = few; mate_few = mate_below i arcs_most refl few }
+    walking_few : (i < arcs_most) × (mate i < arcs_most)
+    walking_few = let few : i < arcs_most = omega (arith, walking_listed, W.lent.arcs.arcs_few) in (few, mate_below i arcs_most refl few)
 
-    module _ {x : ℕ} (ex : x ≡ get_or ts i 0) where
-      walking_step : (y m : ℕ) → y ≡ get_or hs i 0 → m ≡ mate i → (n : ℕ) → is_wanted (table_graph n s ts hs) path ≡
-          (eqb x v && not (eqb (get_or t y 0) 1) && not (eqb (get_or u m 0) 1) && wanted_from (table_graph n s ts hs) y (y ∷ W.nodes) (i ∷ W.arcs) (drop (suc k) path))
+    module _ {x : ℕ} (ex : x ≡ (get_or xs i no_arc).tail) where
+      walking_step : (y m : ℕ) → y ≡ (get_or xs i no_arc).head → m ≡ mate i → (n : ℕ) → is_wanted (graph n s xs) path ≡
+          (eqb x v && not (get_or t y false) && not (get_or u m false) && wanted_from (graph n s xs) y (y ∷ W.nodes) (i ∷ W.arcs) (drop (suc k) path))
       unfolding wanted_from
       walking_step y m ey em n =
-          let low : i < length (table_graph n s ts hs).arcs = omega (arith, walking_inside.listed, zipped_length ts hs W.lent.arcs.as_long) in
-          let tail_is : tail (table_graph n s ts hs) i ≡ get_or ts i 0 = ap (λ (a : Arc). a.tail) (zipped_at ts hs i low) in
-          let head_is : head (table_graph n s ts hs) i ≡ get_or hs i 0 = ap (λ (a : Arc). a.head) (zipped_at ts hs i low) in
           W.rest n ∙
-          rw (
-            drop-cons path k 0 l,
-            lt-ltb i (length (table_graph n s ts hs).arcs) low,
-            tail_is,
-            head_is,
-            ← ex,
-            ← ey,
-            ← em,
-            W.nodes_marked y,
-            W.arcs_marked m,
-          )
+          rw (drop-cons path k 0 l, ← ei, lt-ltb i (length xs) walking_listed, ← ex, ← ey, ← em, W.nodes_marked y, W.arcs_marked m)
 
-      pub walking_apart : x ≢ v → (n : ℕ) → false ≡ is_wanted (table_graph n s ts hs) path
+      pub walking_apart : x ≢ v → (n : ℕ) → false ≡ is_wanted (graph n s xs) path
       walking_apart q n = rw (walking_step _ _ refl refl n, ne_eqb x v q)
 
-      module _ (e : x ≡ v) {y : ℕ} (ey : y ≡ get_or hs i 0) where
-        pub walking_seen : get_or t y 0 ≡ 1 → (n : ℕ) → false ≡ is_wanted (table_graph n s ts hs) path
-        walking_seen q n = rw (walking_step y _ ey refl n, eq-eqb x v e, eq-eqb (get_or t y 0) 1 q)
+      module _ (e : x ≡ v) {y : ℕ} (ey : y ≡ (get_or xs i no_arc).head) where
+        pub walking_seen : get_or t y false ≡ true → (n : ℕ) → false ≡ is_wanted (graph n s xs) path
+        walking_seen q n = rw (walking_step y _ ey refl n, eq-eqb x v e, q)
 
-        module _ (f : get_or t y 0 ≢ 1) {m : ℕ} (em : m ≡ mate i) where
-          pub walking_used : get_or u m 0 ≡ 1 → (n : ℕ) → false ≡ is_wanted (table_graph n s ts hs) path
-          walking_used q n = rw (walking_step y m ey em n, eq-eqb x v e, ne_eqb (get_or t y 0) 1 f, eq-eqb (get_or u m 0) 1 q)
+        module _ (f : get_or t y false ≡ false) {m : ℕ} (em : m ≡ mate i) where
+          pub walking_used : get_or u m false ≡ true → (n : ℕ) → false ≡ is_wanted (graph n s xs) path
+          walking_used q n = rw (walking_step y m ey em n, eq-eqb x v e, f, q)
 
-          pub walking_next : get_or u m 0 ≢ 1 → y < 256 → Walking s ts hs path (k + 1) y (set t y 1) (set u i 1)
+          pub walking_next : get_or u m false ≡ false → y < 256 → Walking s xs path (k + 1) y (set t y true) (set u i true)
           walking_next q h =
               record {
                 lent = W.lent;
                 nodes = y ∷ W.nodes;
                 arcs = i ∷ W.arcs;
                 nodes_marked = marks_more t W.nodes y W.nodes_marked (omega (arith, W.seen_long));
-                arcs_marked = marks_more u W.arcs i W.arcs_marked (omega (arith, W.used_long, walking_inside.few));
-                seen_long = length-set t y 1 ∙ W.seen_long;
-                used_long = length-set u i 1 ∙ W.used_long;
-                rest = λ n. walking_step y m ey em n ∙ rw (eq-eqb x v e, ne_eqb (get_or t y 0) 1 f, ne_eqb (get_or u m 0) 1 q, add-one k);
+                arcs_marked = marks_more u W.arcs i W.arcs_marked (omega (arith, W.used_long, walking_few));
+                seen_long = length-set t y true ∙ W.seen_long;
+                used_long = length-set u i true ∙ W.used_long;
+                rest = λ n. walking_step y m ey em n ∙ rw (eq-eqb x v e, f, q, add-one k);
               }

@@ -2,43 +2,39 @@
 //   is_wanted     judged arc by arc, with a table of nodes seen and one of arcs used
 ghost use Rattle.std.specs.Prelude.{◌≡◌, ℕ};
 ghost use Rattle.skew.specs.Graph.{is_wanted};
-ghost use Rattle.arcs.specs.Table.{table_graph};
+ghost use Rattle.arcs.specs.Table.{graph};
 ghost use Rattle.judging.specs.Walks.{PathLent};
 
-use arcs::node::{mate_of, wide};
+use arcs::node::mate_of;
 use formats::limits::ARCS_MOST;
+use skew::Arc;
 
 // Each arc starts where the one before ended, at a node not seen before, and its mate was not used. Mates are told by their numbers.
 // The number of mate pairs plays no part.
-pub fn is_wanted(source: usize, tails: &[u8], heads: &[u8], path: &[u16]) -> bool
-    requires { PathLent source tails.now heads.now path.now }
-    ensures { (n : ℕ) → result ≡ is_wanted (table_graph n source tails.now heads.now) path.now }
+pub fn is_wanted(source: usize, arcs: &[Arc], path: &[u16]) -> bool
+    requires { PathLent source arcs.now path.now }
+    ensures { (n : ℕ) → result ≡ is_wanted (graph n source arcs.now) path.now }
 {
-    let mut seen = [0u8; 256];
-    let mut used = [0u8; ARCS_MOST];
-    seen[source] = 1;
+    let mut seen = [false; 256];
+    let mut used = [false; ARCS_MOST];
+    seen[source] = true;
     let mut at = source;
-    let mut k: usize = 0;
-    // invariant: specs/Walks Walking; falls: arcs left
-    while k < path.len() {
-        let i = path[k] as usize;
-        if wide(tails[i]) != at {
+    // invariant: specs/Walks Walking
+    for k in path {
+        let i = usize::from(*k);
+        let arc = &arcs[i];
+        if usize::from(arc.tail) != at {
             return false; // not joined
         }
-        at = wide(heads[i]);
-        if seen[at] == 1 {
+        at = usize::from(arc.head);
+        if seen[at] {
             return false; // a node twice
         }
-        let m = mate_of(i);
-        if used[m] == 1 {
+        if used[mate_of(i)] {
             return false; // an arc with its mate
         }
-        seen[at] = 1;
-        used[i] = 1;
-        k += 1;
+        seen[at] = true;
+        used[i] = true;
     }
-    if at != mate_of(source) {
-        return false; // another end
-    }
-    true
+    at == mate_of(source)
 }

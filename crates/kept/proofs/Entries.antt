@@ -1,37 +1,26 @@
 -- The entries that the slots say, where slots are moved, passed and closed up.
---   slot_at i                                     where slot i begins
---   part_sized                                    a part by its two ends, as slices are taken, and by its size
 --   entries_same, entries_length                  the same slots; as many entries as slots
 --   slot_byte, slot_part, name_at                 a byte and a part of a slot, and its name, as they stand in the block
 --   moved                                         a slot's bytes copied to another slot
---   passed_named, passed_else                     a slot passed, which has the name or not
---   closing_start, closing_next, closing_end      all slots passed
+--   passed_else                                   a slot passed that has another name
+--   closing_start, closing_next                   no slot is passed; one more is
 use mathlib.Core.Path.{◌≡◌, refl, sym, ap, ◌∙◌}
 use mathlib.Core.Logic.{◌≢◌, inl, inr}
 use mathlib.Core.List.{List, ◌∷◌}
-use Prim.Native.Nat.{ℕ, zero, suc, ◌+◌, ◌*◌, ◌-◌, ◌≤◌, ◌<◌}
+use Prim.Native.Nat.{ℕ, zero, suc, ◌+◌, ◌≤◌, ◌<◌}
 use native.Mathlib.Omega.{arith}
 use native.Mathlib.Numerals.{add-one}
-use borrow.Author.Tests.{ltb-true, ltb-false, eq-eqb, ne_eqb}
+use borrow.Author.Tests.{ltb-true, ltb-false, ne_eqb}
 use lib.Dec.{ltb}
 use lib.ListN.{length, get_or, take, drop, length-take, length-drop}
-use lib.Seq.{sets, length-sets, take_all, get_or-take, get_or-drop, drop-drop}
+use lib.Seq.{sets, get_or-take, get_or-drop, drop-drop}
 use Rattle.formats.specs.Limits.{names_most}
 use Rattle.counting.specs.Tests.{pick, keep}
 use Rattle.counting.proofs.Booleans.{by_test}
-use Rattle.counting.proofs.Stores.{take_sets}
 use Rattle.counting.proofs.Parts.{part_front, part_outside, part_inside}
-use Rattle.frames.specs.Lines.{part}
-use Rattle.frames.specs.Writes.{Written}
 use Rattle.kept.specs.State.{is_named, without}
-use Rattle.kept.specs.Block.{slots_at, slot_size, block_size, slot_of, named_in, entries_in}
-use Rattle.kept.specs.Slots.{Moved, SlotPassed, Closing, ClosedUp}
-
-abbrev pub slot_at : (slot : ℕ) → ℕ
-slot_at i = slots_at + slot_size * i
-
-pub part_sized : (at n : ℕ) (xs : List ℕ) → part at (at + n) xs ≡ take n (drop at xs)
-part_sized at n xs = let e : (at + n) - at ≡ n = omega arith in rw e
+use Rattle.kept.specs.Block.{slots_at, slot_size, slot_at, block_size, kept_in, slot_of, named_in, entries_in}
+use Rattle.kept.specs.Slots.{Moved, SlotPassed, Closing}
 
 pub entries_same : (b c : List ℕ) (k : ℕ) → ((j : ℕ) → j < k → slot_of j c ≡ slot_of j b) → entries_in k c ≡ entries_in k b
 unfolding entries_in
@@ -54,36 +43,25 @@ module _ (i : ℕ) (b : List ℕ) where
   pub name_at : get_or (slot_of i b) 0 0 ≡ get_or b (slot_at i) 0
   name_at = let e : slot_at i + 0 ≡ slot_at i = omega arith in rw e at (slot_byte 0 (omega arith))
 
--- MOVED, through a spare slot
-module _ {b spare spare' b' : List ℕ} {from to n k p q : ℕ}
-    (v : Written spare 0 n (part (slot_at from) (slot_at from + slot_size) b) spare' p) (w : Written b (slot_at to) k spare' b' q)
-    (size : length spare ≡ slot_size) (whole : length b ≡ block_size) (from_low : from < names_most) (to_low : to < names_most) where
-  long : length spare' ≡ slot_size
-  long = ap length v.bytes ∙ length-sets spare 0 (part (slot_at from) (slot_at from + slot_size) b) ∙ size
-
-  copied : spare' ≡ slot_of from b
-  copied =
-      let l : length (slot_of from b) ≡ slot_size = simp (length-take, length-drop) (omega arith) in
-      let c : spare' ≡ sets spare 0 (slot_of from b) = rw (part_sized (slot_at from) slot_size b) at v.bytes in
-      sym (take_all slot_size spare' (omega (arith, long))) ∙ rw c (rw l at (take_sets spare (slot_of from b) (omega arith)))
+-- MOVED
+module _ (b : List ℕ) {b' slot : List ℕ} (from to : ℕ) (bytes : b' ≡ sets b (slot_at to) slot) (copied : slot ≡ slot_of from b)
+    (whole : length b ≡ block_size) (from_low : from < names_most) (to_low : to < names_most) where
+  long : length slot ≡ slot_size
+  long = rw copied (simp (length-take, length-drop) (omega arith))
 
   pub moved : Moved b from to b'
   moved =
       record {
-        there = rw w.bytes ((rw long at (part_inside b (slot_at to) spare' (omega (arith, long)))) ∙ copied);
+        there = rw bytes ((rw long at (part_inside b (slot_at to) slot (omega (arith, long)))) ∙ copied);
         others =
             λ i h.
-            rw w.bytes
-            (part_outside slot_size (slot_at i) b (slot_at to) spare'
+            rw bytes
+            (part_outside slot_size (slot_at i) b (slot_at to) slot
             (by_test (ltb i to) (λ t. let l = ltb-true i to t in inl (omega arith)) (λ t. let l = ltb-false i to t in inr (omega (arith, long, h)))));
-        front = rw w.bytes (part_outside slots_at 0 b (slot_at to) spare' (inl (omega arith)));
+        front = rw bytes (part_outside slots_at 0 b (slot_at to) slot (inl (omega arith)));
       }
 
 -- PASSED
-pub passed_named : (b : List ℕ) (i to n : ℕ) → get_or b (slot_at i) 0 ≡ n → SlotPassed b i to n b to
-passed_named b i to n e =
-    record { entries = rw (eq-eqb (get_or (slot_of i b) 0 0) n (name_at i b ∙ e)); later = λ j h. refl; few = omega arith; front = refl }
-
 pub passed_else : {b c : List ℕ} {i to : ℕ} (n : ℕ) → to ≤ i → get_or b (slot_at i) 0 ≢ n → Moved b i to c → SlotPassed b i to n c (to + 1)
 unfolding entries_in
 passed_else {b} {c} {i} {to} n h e m =
@@ -96,25 +74,19 @@ passed_else {b} {c} {i} {to} n h e m =
     }
 
 -- CLOSED UP
-pub closing_start : (b : List ℕ) (count n : ℕ) → Closing b count n b 0 0
+pub closing_start : (b : List ℕ) (n : ℕ) → Closing b n b 0 0
 unfolding entries_in keep
-closing_start b count n = record { within = omega arith; few = omega arith; entries = refl; later = λ j h. refl; front = refl }
+closing_start b n = record { within = omega arith; few = omega arith; entries = refl; later = λ j h. refl; front = refl }
 
-module _ {b c : List ℕ} {count n i left : ℕ} (p : Closing b count n c i left) where
-  pub closing_next : {d : List ℕ} {next : ℕ} → i < count → SlotPassed c i left n d next → Closing b count n d (i + 1) next
-  unfolding entries_in keep
-  closing_next {d} {next} h q =
-      let e : entries_in next d ≡ pick (is_named n (named_in i b)) (without n (entries_in i b)) (named_in i b ∷ without n (entries_in i b)) =
-      rw (p.later i (omega arith), p.entries) at q.entries in
-      record {
-        within = omega arith;
-        few = omega (arith, p.few, q.few);
-        entries = rw add-one (e ∙ by_test (is_named n (named_in i b)) (λ t. rw t) (λ t. rw t));
-        later = λ j l. q.later j (omega arith) ∙ p.later j (omega arith);
-        front = q.front ∙ p.front;
-      }
-
-  pub closing_end : count ≤ i → ClosedUp b count n c left
-  closing_end h =
-      let e : i ≡ count = omega (arith, p.within) in
-      record { entries = rw e at p.entries; few = omega (arith, p.few, p.within); front = p.front }
+pub closing_next : {b c d : List ℕ} {n i left next : ℕ} → Closing b n c i left → i < kept_in b → SlotPassed c i left n d next → Closing b n d (i + 1) next
+unfolding entries_in keep
+closing_next {b} {d = d} {n} {i} {next = next} p h q =
+    let e : entries_in next d ≡ pick (is_named n (named_in i b)) (without n (entries_in i b)) (named_in i b ∷ without n (entries_in i b)) =
+    rw (p.later i (omega arith), p.entries) at q.entries in
+    record {
+      within = omega arith;
+      few = omega (arith, p.few, q.few);
+      entries = rw add-one (e ∙ by_test (is_named n (named_in i b)) (λ t. rw t) (λ t. rw t));
+      later = λ j l. q.later j (omega arith) ∙ p.later j (omega arith);
+      front = q.front ∙ p.front;
+    }

@@ -1,6 +1,6 @@
 -- Laws by subject; each file stands on those above it.
 --   ByName       the entries of a state, by their names
---   Columns      pairs in two columns behind a header
+--   PairColumns  pairs in two columns behind a header
 --   Entries      the entries that slots say, moved, passed and closed up
 --   Names        a name looked for among the entries
 --   Fronts       what stands before the slots
@@ -11,7 +11,7 @@
 --   Promises     the promises, kept over any calls in a row
 --   Known        examples, by computing
 pub mod ByName
-pub mod Columns
+pub mod PairColumns
 pub mod Entries
 pub mod Names
 pub mod Fronts

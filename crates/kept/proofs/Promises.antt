@@ -17,7 +17,8 @@ use lib.ListN.{length, drop, replicate}
 use borrow.Author.Tests.{eqb-true, eqb-false, eq-eqb, ne_eqb, lt-ltb, le-ltb, ltb-false, le-leb, lt-leb, not-true}
 use Rattle.formats.specs.Limits.{room, names_most}
 use Rattle.counting.specs.Tests.{all, any}
-use Rattle.counting.specs.Pairs.{Pair, zip_pairs, pair_named}
+use Rattle.counting.specs.Pairs.{zip_pairs, pair_named}
+use Rattle.counting.specs.declared.Pair.{Pair}
 use Rattle.counting.proofs.Booleans.{and_two, and_five, and_both, or_right, or_false_left, or_false_right, by_test, true_false}
 use Rattle.counting.proofs.Membership.{each_all}
 use Rattle.counting.proofs.NoRepeats.{distinct_none_twice}
@@ -37,8 +38,7 @@ use Rattle.files.proofs.AcceptedFiles.{accepted_stock, stock_few}
 use Rattle.files.proofs.AnswerLines.{plan_size}
 use Rattle.files.proofs.PlanFiles.{plan_few, plan_accepted}
 use Rattle.files.specs.Answers.{over}
-use Rattle.lanes.specs.Entry.{room_fault, told}
-use Rattle.lanes.specs.declared.Told.{Told}
+use Rattle.lanes.specs.Entry.{Told, room_fault, told}
 use Rattle.lanes.specs.Tallies as tallies
 use Rattle.kept.specs.State.{State, power_on, is_named, is_kept, without, pairs_under, KeptCall, bring, keep_as, come_back, name_fault, place_fault, fault_of, KeptAnswer, answer_of, after, after_calls}
 use Rattle.kept.specs.Block.{block_size, entries_in, state_of, Owes, Returns, Led}

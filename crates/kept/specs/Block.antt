@@ -5,6 +5,7 @@
 --   kept_at                            where the number of names stands
 --   firsts_at, seconds_at, slots_at    where the fits' cameras and the slots begin
 --   slot_size, pairs_at, others_at     a slot's bytes, and where the cameras of its pairs begin in it
+--   slot_at i                          where slot i begins
 --   cameras_in, fits_in, kept_in       the numbers
 --   slot_of i b, slot_pairs s          the bytes of slot i; the pairs that a slot's bytes say
 --   named_in i b                       the name and the pairs of slot i
@@ -17,10 +18,10 @@
 --   Led before ks after                calls in a row, each given the block that the last one left
 use Rattle.std.specs.Prelude.{◌≡◌, ◌≢◌, List, [], ◌∷◌, ℕ, zero, suc, ◌+◌, ◌*◌, min, length, get_or, take, drop}
 use Rattle.formats.specs.Limits.{cameras_most, fits_most, names_most, pairs_most}
-use Rattle.counting.specs.Pairs.{Pair, pairs_of}
+use Rattle.counting.specs.Pairs.{pairs_of}
+use Rattle.counting.specs.declared.Pair.{Pair}
 use Rattle.files.specs.Answers.{over}
-use Rattle.lanes.specs.Entry.{told}
-use Rattle.lanes.specs.declared.Told.{Told}
+use Rattle.lanes.specs.Entry.{Told, told}
 use Rattle.kept.specs.State.{Named, State, KeptCall, fault_of, answer_of, after}
 
 -- PLACES
@@ -48,6 +49,9 @@ pairs_at = 2
 abbrev pub others_at : ℕ
 others_at = 65
 
+abbrev pub slot_at : (slot : ℕ) → ℕ
+slot_at i = slots_at + slot_size * i
+
 -- NUMBERS
 abbrev pub cameras_in : (block : List ℕ) → ℕ
 cameras_in b = min (get_or b 0 0) cameras_most
@@ -60,7 +64,7 @@ kept_in b = min (get_or b kept_at 0) names_most
 
 -- SLOTS
 abbrev pub slot_of : (slot : ℕ) → (block : List ℕ) → List ℕ
-slot_of i b = take slot_size (drop (slots_at + slot_size * i) b)
+slot_of i b = take slot_size (drop (slot_at i) b)
 
 abbrev slot_pairs : (slot : List ℕ) → List Pair
 slot_pairs s = pairs_of (get_or s 1 0) (take pairs_most (drop pairs_at s)) (take pairs_most (drop others_at s))

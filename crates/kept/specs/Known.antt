@@ -8,7 +8,8 @@
 --   KnownKept                           what is asked of a keep, what comes back after those calls, and a ninth name
 use Rattle.std.specs.Prelude.{◌≡◌, List, [], ◌∷◌, ◌++◌, ℕ, length}
 use Rattle.formats.specs.Kinds.{fit_kind, plan_end, plan_kind, stock_end, stock_kind}
-use Rattle.counting.specs.Pairs.{Pair, pair}
+use Rattle.counting.specs.Pairs.{pair}
+use Rattle.counting.specs.declared.Pair.{Pair}
 use Rattle.frames.specs.Frames.{frame4, frame6, frame_of4}
 use Rattle.files.specs.StockFile.{stock_in, plan_lines, plan_text}
 use Rattle.lanes.specs.Known.{s5_file, throughout}

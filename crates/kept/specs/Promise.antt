@@ -26,7 +26,8 @@ use Rattle.std.specs.Prelude.{◌≡◌, ◌↔◌, ◌≢◌, Bool, true, false
 use Rattle.formats.specs.Limits.{file_most, room}
 use Rattle.counting.specs.Tests.{all, none_twice}
 use Rattle.counting.specs.Lists.{In}
-use Rattle.counting.specs.Pairs.{Pair, pair_named}
+use Rattle.counting.specs.Pairs.{pair_named}
+use Rattle.counting.specs.declared.Pair.{Pair}
 use Rattle.frames.specs.Frames.{or_else, unless}
 use Rattle.frames.specs.Questions.{first_no}
 use Rattle.frames.specs.EitherEnd.{with_returns}
@@ -36,7 +37,7 @@ use Rattle.files.specs.PlanFile.{plan_pairs, plan_shape, plan_fault}
 use Rattle.lanes.specs.Tallies.{Call, outcome_of, tally_after}
 use Rattle.lanes.specs.Tallies as tallies
 use Rattle.lanes.specs.declared.Tally.{Tally}
-use Rattle.lanes.specs.declared.Told.{Told}
+use Rattle.lanes.specs.Entry.{Told}
 use Rattle.kept.specs.State.{Named, State, power_on, is_kept, KeptCall, bring, keep_as, come_back, forget, place_fault, fault_of, answer_of, after, after_calls}
 use Rattle.kept.specs.Block.{block_size, state_of, Owes, Returns, Led}
 

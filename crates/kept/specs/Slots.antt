@@ -4,16 +4,16 @@
 --   KeptPut b k b'                 another number of names, and nothing else differs
 --   Moved b from to b'             a slot's bytes stand in another slot too, and nothing else differs
 --   SlotPassed b i to n b' left    slot i is passed: dropped where it has the name, and otherwise moved to slot `to`
---   Closing b count n b' i left    the first i of the slots are passed
---   ClosedUp b count n b' left     all of them are: those that have another name are left, closed up
+--   Closing b n b' i left          the first i of the slots that are in use are passed
+--   ClosedUp b n b' left           all of them are: those that have another name are left, closed up
 --   PairsPut b to n ps b'          a name and its pairs stand in a slot, and the slots below it as they were
---   NameFound b count n r          r is one more than the slot that was kept last under a name, 0 where the name is not kept
+--   NameFound b n r                r is the slot that was kept last under a name, none where the name is not kept
 --   Stored b n ps number b'        pairs kept under a name; or 19, and every byte as it was
-use Rattle.std.specs.Prelude.{◌≡◌, ◌≢◌, true, false, List, [], ◌∷◌, ℕ, suc, ◌-◌, ◌≤◌, ◌<◌, length, set, take}
-use Rattle.counting.specs.Tests.{pick, any}
-use Rattle.counting.specs.Pairs.{Pair}
-use Rattle.kept.specs.State.{is_named, without, pairs_under, place_fault}
-use Rattle.kept.specs.Block.{kept_at, slots_at, slot_of, named_in, entries_in, state_of}
+use Rattle.std.specs.Prelude.{◌≡◌, ◌≢◌, true, false, Option, Some, None, List, [], ◌∷◌, ℕ, suc, ◌≤◌, ◌<◌, length, set, take}
+use Rattle.counting.specs.Tests.{pick}
+use Rattle.counting.specs.declared.Pair.{Pair}
+use Rattle.kept.specs.State.{is_named, is_kept, without, pairs_under, place_fault}
+use Rattle.kept.specs.Block.{kept_at, slots_at, kept_in, slot_of, named_in, entries_in, state_of}
 
 abbrev pub front_of : (block : List ℕ) → List ℕ
 front_of b = take slots_at b
@@ -36,26 +36,25 @@ pub record SlotPassed (b : List ℕ) (i to n : ℕ) (then : List ℕ) (left : �
   pub few : left ≤ suc to
   pub front : front_of then ≡ front_of b
 
-pub record Closing (b : List ℕ) (count n : ℕ) (then : List ℕ) (i left : ℕ) : Type 0 where
-  pub within : i ≤ count
+pub record Closing (b : List ℕ) (n : ℕ) (then : List ℕ) (i left : ℕ) : Type 0 where
+  pub within : i ≤ kept_in b
   pub few : left ≤ i
   pub entries : entries_in left then ≡ without n (entries_in i b)
   pub later : (j : ℕ) → i ≤ j → slot_of j then ≡ slot_of j b
   pub front : front_of then ≡ front_of b
 
-pub record ClosedUp (b : List ℕ) (count n : ℕ) (then : List ℕ) (left : ℕ) : Type 0 where
-  pub entries : entries_in left then ≡ without n (entries_in count b)
-  pub few : left ≤ count
+pub record ClosedUp (b : List ℕ) (n : ℕ) (then : List ℕ) (left : ℕ) : Type 0 where
+  pub entries : entries_in left then ≡ without n (state_of b).kept
+  pub few : left ≤ kept_in b
   pub front : front_of then ≡ front_of b
 
 pub record PairsPut (b : List ℕ) (to n : ℕ) (ps : List Pair) (then : List ℕ) : Type 0 where
   pub entries : entries_in (suc to) then ≡ record { name = n; pairs = ps } ∷ entries_in to b
   pub front : front_of then ≡ front_of b
 
-pub record NameFound (b : List ℕ) (count n r : ℕ) : Type 0 where
-  pub within : r ≤ count
-  pub none : r ≡ 0 → any (is_named n) (entries_in count b) ≡ false
-  pub some : 0 < r → (any (is_named n) (entries_in count b) ≡ true) × (pairs_under n (entries_in count b) ≡ (named_in (r - 1) b).pairs)
+abbrev pub NameFound : (block : List ℕ) → (name : ℕ) → (found : Option ℕ) → Type 0
+NameFound b n None = is_kept (state_of b) n ≡ false
+NameFound b n (Some i) = (i < kept_in b) × (is_kept (state_of b) n ≡ true) × (pairs_under n (state_of b).kept ≡ (named_in i b).pairs)
 
 pub record Stored (b : List ℕ) (n : ℕ) (ps : List Pair) (number : ℕ) (then : List ℕ) : Type 0 where
   pub says : number ≡ place_fault (state_of b) n

@@ -12,7 +12,7 @@
 use Rattle.std.specs.Prelude.{Bool, ◌||◌, not, List, [], ◌∷◌, ℕ, ltb, eqb, length}
 use Rattle.formats.specs.Limits.{names_most}
 use Rattle.counting.specs.Tests.{pick, any, keep}
-use Rattle.counting.specs.Pairs.{Pair}
+use Rattle.counting.specs.declared.Pair.{Pair}
 use Rattle.frames.specs.Frames.{or_else, unless}
 use Rattle.files.specs.StockFile.{stock_in, stock_fault, plan_text}
 use Rattle.files.specs.PlanFile.{plan_pairs, plan_fault}

@@ -10,7 +10,7 @@ use lib.Dec.{leb, eqb}
 use lib.ListN.{length, drop}
 use borrow.Author.Tests.{eqb-true, eqb-false, leb-true, le-leb}
 use Rattle.formats.specs.Limits.{searches_most}
-use Rattle.counting.specs.Pairs.{Pair}
+use Rattle.counting.specs.declared.Pair.{Pair}
 use Rattle.counting.proofs.Booleans.{by_test, true_false}
 use Rattle.frames.specs.Frames.{or_else}
 use Rattle.frames.proofs.Questions.{or_none}
@@ -27,9 +27,8 @@ use Rattle.files.specs.Answers.{over}
 use Rattle.files.proofs.AcceptedFiles.{accepted_stock, stock_few}
 use Rattle.files.proofs.AnswerLines.{budget_size}
 use Rattle.files.proofs.BudgetBytes.{budget_header}
-use Rattle.lanes.specs.Entry.{most_fault, budget_fault, searched, budget_text_of, BudgetOwes}
+use Rattle.lanes.specs.Entry.{most_fault, budget_fault, searched, budget_text_of, BudgetOwes, SearchedTold}
 use Rattle.lanes.proofs.CallFaults.{call_none}
-use Rattle.lanes.specs.declared.Searched.{Searched}
 use Rattle.lanes.specs.BudgetPromise.{pairs_said, searches_said, missing_said, BudgetNumbers, BudgetBounds, BudgetPlans, SameRefusals, SomeBudget}
 
 -- what the questions settle
@@ -41,7 +40,7 @@ asked c b f n e =
     )
 
 -- AN ACCEPTED FILE
-module _ (c b : ℕ) (f o v : List ℕ) (r : Searched) (e : budget_fault c b f (length o) ≡ 0) (B : BudgetOwes c b f o r v) where
+module _ (c b : ℕ) (f o v : List ℕ) (r : SearchedTold) (e : budget_fault c b f (length o) ≡ 0) (B : BudgetOwes c b f o r v) where
   abbrev s : Stock
   s = stock_in f
 
@@ -86,8 +85,8 @@ module _ (c b : ℕ) (f o v : List ℕ) (r : Searched) (e : budget_fault c b f (
     said.0 ∙ (budgeted_parts s b ps right).count,
     said.1,
     said.2 ∙ ap (missing s b) (sym said.0),
-    ap (λ (x : Searched). x.searches) told ∙ sym said.1,
-    ap (λ (x : Searched). x.told.size) told ∙ budget_size (searches_run s b) (missing s b (length ps)) ps ∙ ap (λ (k : ℕ). 16 + 7 * k) (sym said.0),
+    ap (λ (x : SearchedTold). x.searches) told ∙ sym said.1,
+    ap (λ (x : SearchedTold). x.told.size) told ∙ budget_size (searches_run s b) (missing s b (length ps)) ps ∙ ap (λ (k : ℕ). 16 + 7 * k) (sym said.0),
   )
 
   bounds : greatest s.fits ≤ pairs_said v + missing_said v

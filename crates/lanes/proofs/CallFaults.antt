@@ -5,30 +5,32 @@
 --   call_none       where a call is not refused, none of its questions refuses
 --   call_some       where one of the others refuses, the call is refused
 use mathlib.Core.Path.{◌≡◌, refl, ◌∙◌}
-use mathlib.Core.Logic.{◌≢◌}
 use mathlib.Core.Bool.{false}
 use Prim.Native.Nat.{ℕ}
 use native.Mathlib.Omega.{arith}
 use lib.Dec.{eqb, ltb, leb}
 use borrow.Author.Tests.{leb-true}
+use Rattle.std.specs.Prelude.{Ok, Err}
 use Rattle.formats.specs.Limits.{callers, room}
+use Rattle.formats.specs.Refusals.{refusal_number}
+use Rattle.formats.specs.declared.refusals.Refusal.{Refusal}
 use Rattle.counting.proofs.Booleans.{by_test}
+use Rattle.frames.proofs.Questions.{refusal_some}
 use Rattle.lanes.specs.Entry.{call_fault}
 use Rattle.lanes.specs.Calls.{CallAsked, CallPasses}
 
-module _ {c n k : ℕ} (A : CallAsked c n k) where
-  pub call_refused : k ≢ 0 → (m : ℕ) → call_fault c n m ≡ k
-  call_refused h m =
-      rw A.is
-      (by_test (ltb c callers) (λ t. by_test (leb room n) (λ u. absurd (h (A.is ∙ rw (t, u)))) (λ u. rw (t, u))) (λ t. rw t))
+pub call_refused : {c n : ℕ} {e : Refusal} → CallAsked c n (Err e) → (m : ℕ) → call_fault c n m ≡ refusal_number e
+call_refused {c} {n} {e} A m =
+    rw A.is
+    (by_test (ltb c callers) (λ t. by_test (leb room n) (λ u. absurd (refusal_some e (A.is ∙ rw (t, u)))) (λ u. rw (t, u))) (λ t. rw t))
 
-  pub call_passes : k ≡ 0 → CallPasses c n
-  call_passes z =
-      by_test (ltb c callers)
-      (λ t.
-      by_test (leb room n) (λ u. record { others = λ m. rw (t, u); roomy = leb-true room n u })
-      (λ u. let e : k ≡ 1 = A.is ∙ rw (t, u) in absurd (omega arith)))
-      (λ t. let e : k ≡ 17 = A.is ∙ rw t in absurd (omega arith))
+pub call_passes : {c n : ℕ} {u : Unit} → CallAsked c n (Ok u) → CallPasses c n
+call_passes {c} {n} A =
+    by_test (ltb c callers)
+    (λ t.
+    by_test (leb room n) (λ u. record { others = λ m. rw (t, u); roomy = leb-true room n u })
+    (λ u. let e : ◌≡◌ {A = ℕ} 0 1 = A.is ∙ rw (t, u) in absurd (omega arith)))
+    (λ t. let e : ◌≡◌ {A = ℕ} 0 17 = A.is ∙ rw t in absurd (omega arith))
 
 module _ (c n m : ℕ) where
   pub call_is : (P : ℕ → Type 0) → P 17 → P 1 → P m → P (call_fault c n m)

@@ -18,13 +18,11 @@ use Rattle.counting.specs.Sums.{sum}
 use Rattle.counting.specs.Tests.{pick, keep}
 use Rattle.counting.proofs.Booleans.{by_test}
 use Rattle.counting.proofs.Summation.{sum_one_more}
-use Rattle.lanes.specs.Entry.{told}
+use Rattle.lanes.specs.Entry.{told, Told, SearchedTold}
 use Rattle.lanes.specs.Tallies.{count_most, raised, no_counts, added, counts_of, tallied, Asked, graph, stock, budget, Call, call, check, OutcomeRule, outcome_of, tally_by, after_calls}
 use Rattle.lanes.specs.CallerPromise.{CallerFirst, WrongCaller, CallersAlike, OutcomesAre, HasFour, CallsFollow, count_in, count_of, CountsOne, CallCounts, is_counted, CallsLeave, is_by, own_calls, added_by, counts_after, OwnCounts, OwnAlone, WhateverBetween, together, total_of, AreBelow, counted_calls, TotalFrom, zeros, Total, FewBelow}
 use Rattle.lanes.specs.declared.Counts.{Counts}
 use Rattle.lanes.specs.declared.Tally.{Tally}
-use Rattle.lanes.specs.declared.Told.{Told}
-use Rattle.lanes.specs.declared.Searched.{Searched}
 use Rattle.lanes.specs.declared.Outcome.{Outcome}
 use Rattle.lanes.specs.declared.Outcome.TheVariants.{Path, Barrier, Stock, Refusal}
 
@@ -47,8 +45,8 @@ wrong_caller c f o v h = (
   λ r owes. told_17 (rw (no_caller c h) at (owes.0 (rw (no_caller c h)))),
   λ b r owes.
       let q = rw (no_caller c h) at (owes.0 (rw (no_caller c h))) in
-      let e = told_17 (ap (λ (x : Searched). x.told) q.0, q.1) in
-      (e.0, e.1, ap (λ (x : Searched). x.searches) q.0, e.2),
+      let e = told_17 (ap (λ (x : SearchedTold). x.told) q.0, q.1) in
+      (e.0, e.1, ap (λ (x : SearchedTold). x.searches) q.0, e.2),
 )
   where
     told_17 : {r : Told} → (r ≡ told 17 0) × (v ≡ o) → (r.number ≡ 17) × (r.size ≡ 0) × (v ≡ o)

@@ -15,10 +15,8 @@ use Rattle.files.specs.GraphFile.{graph_in}
 use Rattle.files.specs.SameLines.{SameLines}
 use Rattle.files.proofs.SameLines.{returns_same, too_long}
 use Rattle.files.proofs.AnswerEnds.{path_plain, barrier_plain, plan_plain, sheet_plain, plan_sheet_plain, budget_plain}
-use Rattle.lanes.specs.Entry.{check_post, verdict_line}
+use Rattle.lanes.specs.Entry.{check_post, verdict_line, Verdict, Refused, Yes, No}
 use Rattle.lanes.specs.Tallies.{Asked, graph, stock, budget, outcome_of, tallied}
-use Rattle.lanes.specs.declared.Verdict.{Verdict}
-use Rattle.lanes.specs.declared.Verdict.TheVariants.{Refused, Yes, No}
 use Rattle.lanes.specs.EitherEnd.{AnsweredAlike, ReturnsAnswered, ReturnsChecked, WritesPlain}
 
 -- THE CALLS

@@ -19,9 +19,7 @@ use Rattle.matching.proofs.Promises.{well_formed_fits}
 use Rattle.files.specs.GraphFile.{graph_in}
 use Rattle.files.specs.StockFile.{stock_in}
 use Rattle.lanes.specs.Promise.{RefusalsLeave, ReachesByPaths, PathOrBarrier, GreatestIs, MarksAre, OneMark, MarksKept}
-use Rattle.lanes.specs.Entry.{told}
-use Rattle.lanes.specs.declared.Told.{Told}
-use Rattle.lanes.specs.declared.Searched.{Searched}
+use Rattle.lanes.specs.Entry.{told, Told, SearchedTold}
 use Rattle.files.proofs.AcceptedFiles.{accepted_graph, accepted_stock}
 
 -- DEMAND 1
@@ -34,8 +32,8 @@ refusals_leave = (
   λ c f o v r z h. let q = h.0 z in let e = refused z q.0 in (e.0, e.1, q.1),
   λ c b f o v r z h.
       let q = h.0 z in
-      let e = refused z (ap (λ (x : Searched). x.told) q.0) in
-      (e.0, e.1, ap (λ (x : Searched). x.searches) q.0 ∙ rw z, q.1),
+      let e = refused z (ap (λ (x : SearchedTold). x.told) q.0) in
+      (e.0, e.1, ap (λ (x : SearchedTold). x.searches) q.0 ∙ rw z, q.1),
 )
 
 -- DEMANDS 2 AND 3

@@ -1,11 +1,8 @@
--- What the stock call answers: the questions of a file settle what a search takes, and what is written is what it owes.
+-- What the stock call answers: what is written is what it owes.
 --   pairs_few, plan_few               a pairing that was handed out has at most 63 pairs; so has a plan
---   stock_small, stock_written        what is written is short, and is what is owed of the stock
---   stock_taken                       a file as it was read, past its questions
---   stock_is, stock_table             it is its stock, and what a search takes
+--   stock_written                     what is written is what is owed of the stock
 --   stock_refused, stock_answered     what a refused call owes; what an answered one does
 use mathlib.Core.Path.{◌≡◌, refl, sym, ap, subst, ◌∙◌}
-use mathlib.Core.Logic.{◌≢◌}
 use mathlib.Core.Bool.{true, false}
 use mathlib.Core.List.{List, ◌++◌}
 use Prim.Native.Nat.{ℕ, ◌≤◌}
@@ -13,95 +10,71 @@ use native.Mathlib.Omega.{arith}
 use lib.Dec.{eqb}
 use borrow.Author.Tests.{ne_eqb}
 use lib.ListN.{length, take}
-use lib.Seq.{length-take-le}
-use Rattle.formats.specs.Limits.{cameras_most, room}
-use Rattle.counting.specs.Pairs.{Pair, pairs_of, zip_pairs}
+use Rattle.std.specs.Prelude.{Result, Ok}
+use Rattle.std.specs.Result.{IsErrAnd}
+use Rattle.std.proofs.lemmas.Result.{err_from_is_err_and}
+use Rattle.formats.specs.Limits.{cameras_most}
+use Rattle.formats.specs.Refusals.{refusal_number}
+use Rattle.formats.specs.declared.refusals.Refusal.{Refusal}
+use Rattle.counting.specs.declared.Pair.{Pair}
 use Rattle.counting.proofs.Booleans.{true_false}
 use Rattle.matching.specs.Stock.{Stock, is_pairing, greatest}
-use Rattle.matching.specs.Promise.{WellFormedStock}
-use Rattle.pairing.specs.Table.{stock_of, PairsWritten}
-use Rattle.pairing.specs.Plan.{StockTable, PlanMarked}
+use Rattle.pairing.specs.Table.{StockTable, Put}
+use Rattle.pairing.specs.Plan.{PlanMarked}
 use Rattle.pairing.proofs.ListedPairs.{plan_pairing, plan_greatest, listed_few, listed_read}
-use Rattle.files.specs.StockFile.{sheet_with, stock_in, stock_fault, plan_text, plan_and_sheet}
+use Rattle.files.specs.StockFile.{sheet_with, sheet_text, stock_in, stock_fault, plan_text, plan_and_sheet}
 use Rattle.files.specs.Answers.{WrittenFirst}
+use Rattle.frames.proofs.Questions.{refusal_some}
+use Rattle.files.proofs.SheetBytes.{sheet_found, plan_sheet_size}
 use Rattle.lanes.specs.Entry.{stock_call_fault}
-use Rattle.lanes.specs.Calls.{CallPasses, refused_by, answered_by}
-use Rattle.files.specs.Readers.{StockRead}
-use Rattle.files.proofs.StockFiles.{stock_held}
-use Rattle.lanes.specs.StockCalls.{StockTaken, StockWritten, StockAnswered}
+use Rattle.lanes.specs.Calls.{CallPasses}
+use Rattle.lanes.specs.StockCalls.{StockWritten, StockAnswered}
 use Rattle.lanes.specs.declared.Answer.{Answer}
 use Rattle.lanes.specs.declared.Outcome.TheVariants as outcome
-use Rattle.files.proofs.Tables.{pairs_length}
-use Rattle.files.proofs.AcceptedFiles.{accepted_stock, stock_few, fits_few}
-use Rattle.files.proofs.SheetBytes.{sheet_found, plan_sheet_size}
 
 -- WRITTEN
-pub pairs_few : {n : ℕ} {us vs ls rs xs ys xs' ys' : List ℕ} {r : ℕ} {ps : List Pair} → StockTable n us vs ls rs → is_pairing (zip_pairs us vs) ps ≡ true →
-    PairsWritten xs ys 0 xs' ys' r ps → r ≤ 63
+pub pairs_few : {s : Stock} {before after : List Pair} {r : ℕ} {ps : List Pair} → StockTable s → is_pairing s.fits ps ≡ true → Put before 0 after r ps → r ≤ 63
 pairs_few T P w = omega (arith, T.cameras_few, listed_few T.well_formed P w)
 
-module _ {n : ℕ} {us vs ls rs xs ys xs' ys' ms : List ℕ} {r : ℕ} (T : StockTable n us vs ls rs) (P : PlanMarked (stock_of n us vs ls rs) xs ys xs' ys' ms r) where
-  abbrev s : Stock
-  s = stock_of n us vs ls rs
-
-  pairing : is_pairing (zip_pairs us vs) P.pairs ≡ true
+module _ {s : Stock} {xs ys : List Pair} {ms : List ℕ} {r : ℕ} (T : StockTable s) (P : PlanMarked s xs ys ms r) where
+  pairing : is_pairing s.fits P.pairs ≡ true
   pairing = plan_pairing s P.pairs P.plan
 
   pub plan_few : r ≤ 63
   plan_few = pairs_few T pairing P.written
 
   -- the sheet's number is the plan's
-  module _ (h : cameras_most ≤ length xs) (k : cameras_most ≤ length ys) {m : ℕ} (count : m ≡ r) {before after : List ℕ} {size : ℕ}
-      (w : WrittenFirst (plan_text (pairs_of r xs' ys') ++ sheet_with m ms) before after size) where
-    both_told : WrittenFirst (plan_and_sheet s P.pairs) before after size
-    both_told =
-        let number : m ≡ greatest (zip_pairs us vs) = omega (arith, P.written.count, plan_greatest s P.pairs P.plan) in
-        let few = T.cameras_few in
-        rw (listed_read T.well_formed pairing P.written (omega arith) (omega arith), number, P.marks, (sheet_found n (zip_pairs us vs)).0) at w
-
-    pub stock_small : size ≤ room
-    stock_small = omega (arith, both_told.told, plan_sheet_size s P.pairs, P.written.count, plan_few, T.cameras_few)
-
-    pub stock_written : {a : Answer} → a ≡ answered_by size outcome.Stock → StockWritten s before after a
-    stock_written is = record { pairs = P.pairs; plan = P.plan; answers = (rw (is, both_told.told), both_told.bytes); outcome = rw is }
-
--- A FILE AS IT WAS READ
-pub stock_taken : {f us vs xs ys us' vs' xs' ys' : List ℕ} {q n k l : ℕ} → StockRead f us vs xs ys us' vs' xs' ys' q n k l → q ≡ 0 → StockTaken f us' vs' xs' ys' n k l
-stock_taken {f} r e =
-    let h = stock_held r e in
-    let z = sym r.says ∙ e in
-    record { held = h; none = z; few = omega (arith, h.cameras_are, stock_few f z) }
-
-module _ {f us vs xs ys : List ℕ} {n k l : ℕ} (T : StockTaken f us vs xs ys n k l) (m : ℕ) (same : m ≡ n) where
-  pub stock_is : stock_of m (take k us) (take k vs) (take l xs) (take l ys) ≡ stock_in f
-  stock_is = rw (same, T.held.cameras_are, T.held.fits_are, T.held.lit_are)
-
-  pub stock_table : StockTable m (take k us) (take k vs) (take l xs) (take l ys)
-  stock_table =
-      let h = T.held in
+  pub stock_written : cameras_most ≤ length xs → {before after : List ℕ} {size : ℕ} →
+      WrittenFirst (plan_text (take r ys) ++ sheet_with (length (take r ys)) ms) before after size → StockWritten s before after (record { size = size; outcome = outcome.Stock })
+  stock_written h {before} {after} {size} w =
+      let few = T.cameras_few in
+      let read : take r ys ≡ P.pairs = listed_read T.well_formed pairing P.written (omega arith) in
+      let sheet : sheet_with (length P.pairs) ms ≡ sheet_text s.cameras s.fits =
+      ap (λ (k : ℕ). sheet_with k ms) (plan_greatest s P.pairs P.plan) ∙ ap (sheet_with (greatest s.fits)) P.marks ∙ (sheet_found s.cameras s.fits).0 in
+      let one = subst (λ (zs : List Pair). WrittenFirst (plan_text zs ++ sheet_with (length zs) ms) before after size) read w in
+      let both : WrittenFirst (plan_and_sheet s P.pairs) before after size =
+      subst (λ (t : List ℕ). WrittenFirst (plan_text P.pairs ++ t) before after size) sheet one in
       record {
-        as_long = length-take-le k vs h.fits_room.second ∙ sym (length-take-le k us h.fits_room.first);
-        lit_as_long = length-take-le l ys h.lit_room.second ∙ sym (length-take-le l xs h.lit_room.first);
-        cameras_few = omega (arith, T.few);
-        fits_few =
-            omega (arith, length-take-le k us h.fits_room.first, pairs_length h.fits_room, ap (λ (zs : List Pair). length zs) h.fits_are, fits_few f T.none);
-        well_formed = subst (λ (s : Stock). WellFormedStock s) (sym stock_is) (accepted_stock f T.none);
+        pairs = P.pairs;
+        plan = P.plan;
+        answers = (rw both.told, both.bytes);
+        outcome = refl;
+        small = omega (arith, both.told, plan_sheet_size s P.pairs, P.written.count, plan_few);
       }
 
 -- THE CALL
-module _ {c : ℕ} {f o : List ℕ} {r : Answer} where
-  pub stock_refused : {n : ℕ} → stock_call_fault c f (length o) ≡ n → n ≢ 0 → r ≡ refused_by n → StockAnswered c f o r o
-  stock_refused {n} e some is =
-      let z : eqb n 0 ≡ false = ne_eqb n 0 some in
-      record {
-        owes = (λ _. (rw (is, e, z), refl), λ y. absurd (some (sym e ∙ y)));
-        outcome = rw (is, e, z);
-      }
+module _ {c : ℕ} {f o : List ℕ} where
+  pub stock_refused : (r : Result Answer Refusal) (e : Refusal) → IsErrAnd r (λ d. d ≡ e) → stock_call_fault c f (length o) ≡ refusal_number e → StockAnswered c f o r o
+  stock_refused r e q is =
+      let p = err_from_is_err_and r q in
+      let z : eqb (refusal_number e) 0 ≡ false = ne_eqb (refusal_number e) 0 (refusal_some e) in
+      rw (p.1, p.2)
+      (record { owes = (λ _. (rw (is, z), refl), λ y. absurd (refusal_some e (sym is ∙ y))); outcome = rw (is, z); small = omega arith })
 
-  pub stock_answered : {us vs xs ys : List ℕ} {n k l : ℕ} → StockTaken f us vs xs ys n k l → CallPasses c (length o) → {m : ℕ} → m ≡ n →
-      {after : List ℕ} → StockWritten (stock_of m (take k us) (take k vs) (take l xs) (take l ys)) o after r → StockAnswered c f o r after
-  stock_answered T P {m} same {after} w =
-      let v = subst (λ (s : Stock). StockWritten s o after r) (stock_is T m same) w in
-      let e : stock_call_fault c f (length o) ≡ 0 = P.others (stock_fault f) ∙ T.none in
+  pub stock_answered : {s : Stock} → stock_fault f ≡ 0 → s ≡ stock_in f → CallPasses c (length o) → {after : List ℕ} {r : Answer} →
+      StockWritten s o after r → StockAnswered c f o (Ok r) after
+  stock_answered none is P {after} {r} w =
+      let v = subst (λ (s : Stock). StockWritten s o after r) is w in
+      let e : stock_call_fault c f (length o) ≡ 0 = P.others (stock_fault f) ∙ none in
       let z : eqb (stock_call_fault c f (length o)) 0 ≡ true = rw e in
-      record { owes = (λ y. true_false z y, λ _. (v.pairs, (v.plan, v.answers))); outcome = rw z v.outcome }
+      record { owes = (λ y. true_false z y, λ _. (v.pairs, (v.plan, v.answers))); outcome = rw z v.outcome; small = v.small }

@@ -16,7 +16,7 @@ use borrow.Author.Tests.{eqb-true, eqb-false}
 use Rattle.formats.specs.Kinds.{pair_kind}
 use Rattle.formats.specs.Limits.{room}
 use Rattle.counting.specs.Lists.{In}
-use Rattle.counting.specs.Pairs.{Pair}
+use Rattle.counting.specs.declared.Pair.{Pair}
 use Rattle.counting.proofs.Booleans.{and_three, by_test, true_false}
 use Rattle.frames.specs.Frames.{hex_at, body_lines, pairs_in}
 use Rattle.matching.specs.Stock.{Stock, greatest, mark_of, is_plan}
@@ -28,8 +28,7 @@ use Rattle.matching.proofs.Promises.{well_formed_fits}
 use Rattle.pairing.proofs.ListedPairs.{plan_pairing, plan_greatest}
 use Rattle.files.specs.StockFile.{stock_in, stock_fault, sheet_text, plan_text, plan_and_sheet}
 use Rattle.files.specs.Answers.{over}
-use Rattle.lanes.specs.Entry.{told, stock_call_fault, sheet_of_file}
-use Rattle.lanes.specs.declared.Told.{Told}
+use Rattle.lanes.specs.Entry.{told, stock_call_fault, sheet_of_file, Told}
 use Rattle.lanes.specs.StockPromise.{AnsweredWith, sheet_place, plan_half, sheet_half, SheetBegins, HalvesFill, pairs_read, PlansTell, HalvesAgree, SomeAnswer, SheetsTell, SheetsByFits, SheetNumber, SheetMarks, SameIsolated, camera_line}
 use Rattle.files.proofs.AcceptedFiles.{accepted_stock, stock_few}
 use Rattle.files.proofs.AnswerLines.{plan_size}

@@ -7,16 +7,15 @@
 --   IsGraphFile        bytes that document 03's questions of a graph file accept
 --   ReachesByPaths, PathOrBarrier, GreatestIs, MarksAre, SheetsTell    demands 2 and 3, of files of bytes
 use Rattle.std.specs.Prelude.{◌≡◌, ◌↔◌, Bool, true, false, ◌&&◌, List, [], ◌∷◌, ℕ, ◌≤◌, ◌<◌, leb, length}
-use Rattle.counting.specs.Pairs.{Pair}
+use Rattle.counting.specs.declared.Pair.{Pair}
 use Rattle.skew.specs.Graph.{is_wanted, is_reachable, has_path, is_barrier, canonical}
 use Rattle.skew.specs.Promise.{SomePath}
 use Rattle.matching.specs.Promise.{LeftBySome, FitsSomeLeft}
 use Rattle.matching.specs.Stock.{is_pairing, greatest, pairing_mark, is_plan}
 use Rattle.files.specs.GraphFile.{graph_in, basic_graph_fault}
 use Rattle.files.specs.StockFile.{stock_in, stock_fault, alike}
-use Rattle.lanes.specs.Entry.{sheet_of_file}
+use Rattle.lanes.specs.Entry.{sheet_of_file, Told}
 use Rattle.lanes.specs.StockPromise.{AnsweredWith, sheet_half}
-use Rattle.lanes.specs.declared.Told.{Told}
 
 unfoldable pub are_bytes : List ℕ → Bool
 are_bytes [] = true

@@ -27,12 +27,10 @@ use Rattle.frames.specs.Frames.{or_else}
 use Rattle.skew.specs.Graph.{has_path}
 use Rattle.files.specs.GraphFile.{graph_in, graph_fault}
 use Rattle.files.specs.StockFile.{stock_fault}
-use Rattle.lanes.specs.Entry.{room_fault, answer_fault, GraphOwes, stock_call_fault, StockOwes, most_fault, budget_fault, BudgetOwes}
+use Rattle.lanes.specs.Entry.{room_fault, answer_fault, GraphOwes, stock_call_fault, StockOwes, most_fault, budget_fault, BudgetOwes, Told, SearchedTold}
 use Rattle.lanes.specs.Tallies.{no_counts, added, counts_of, Asked, graph, stock, budget, Call, call, check, OutcomeRule, outcome_of, tally_by, tally_after, after_calls}
 use Rattle.lanes.specs.declared.Counts.{Counts}
 use Rattle.lanes.specs.declared.Tally.{Tally}
-use Rattle.lanes.specs.declared.Told.{Told}
-use Rattle.lanes.specs.declared.Searched.{Searched}
 use Rattle.lanes.specs.declared.Outcome.{Outcome}
 use Rattle.lanes.specs.declared.Outcome.TheVariants.{Path, Barrier, Stock, Refusal}
 
@@ -50,14 +48,14 @@ WrongCaller =
     (c : ℕ) (f o v : List ℕ) → 4 ≤ c →
     ((r : Told) → GraphOwes c f o r v → (r.number ≡ 17) × (r.size ≡ 0) × (v ≡ o)) ×
     ((r : Told) → StockOwes c f o r v → (r.number ≡ 17) × (r.size ≡ 0) × (v ≡ o)) ×
-    ((b : ℕ) (r : Searched) → BudgetOwes c b f o r v → (r.told.number ≡ 17) × (r.told.size ≡ 0) × (r.searches ≡ 0) × (v ≡ o))
+    ((b : ℕ) (r : SearchedTold) → BudgetOwes c b f o r v → (r.told.number ≡ 17) × (r.told.size ≡ 0) × (r.searches ≡ 0) × (v ≡ o))
 
 abbrev pub CallersAlike : Type 0
 CallersAlike =
     (c d : ℕ) (f : List ℕ) → c ≤ 3 → d ≤ 3 →
     ((o v : List ℕ) (r : Told) → GraphOwes c f o r v ↔ GraphOwes d f o r v) ×
     ((o v : List ℕ) (r : Told) → StockOwes c f o r v ↔ StockOwes d f o r v) ×
-    ((b : ℕ) (o v : List ℕ) (r : Searched) → BudgetOwes c b f o r v ↔ BudgetOwes d b f o r v) ×
+    ((b : ℕ) (o v : List ℕ) (r : SearchedTold) → BudgetOwes c b f o r v ↔ BudgetOwes d b f o r v) ×
     ((a : Asked) (n : ℕ) → outcome_of c a f n ≡ outcome_of d a f n)
 
 abbrev pub OutcomesAre : Type 0

@@ -1,24 +1,40 @@
--- What the calls by value share (document 01, "Questions put to a call"): the questions before a file's, and what is answered, with what it came to.
---   CallAsked caller size number     the number that 17, then 1, refuse with; 0 where neither does
+-- What the calls by value share (document 01, "Questions put to a call"): the questions before a file's, and what a result tells and comes to.
+--   CallAsked caller size r          17, then 1, refuse, or neither does
 --   CallPasses caller size           neither refuses: what else is asked decides, and there is room
---   refused_by number                a refused call
---   answered_by size outcome         an answered one, by the size of what is written
-use Rattle.std.specs.Prelude.{◌≡◌, ℕ, ◌≤◌}
+--   no_answer                        what is written beside a refusal: nothing
+--   told_in r                        a call's result, as it is told
+--   outcome_in r                     what it comes to
+--   stock_answer a                   a budgeted call's answer, as a stock's
+--   stock_answered r                 its result so
+use Rattle.std.specs.Prelude.{◌≡◌, Result, Ok, Err, ℕ, ◌≤◌}
 use Rattle.formats.specs.Limits.{room}
-use Rattle.lanes.specs.Entry.{call_fault}
+use Rattle.formats.specs.Refusals.{refusal_in, value_or}
+use Rattle.formats.specs.declared.refusals.Refusal.{Refusal}
+use Rattle.lanes.specs.Entry.{call_fault, Told}
 use Rattle.lanes.specs.declared.Answer.{Answer}
+use Rattle.lanes.specs.declared.Searched.{Searched}
 use Rattle.lanes.specs.declared.Outcome.{Outcome}
-use Rattle.lanes.specs.declared.Outcome.TheVariants.{Refusal}
+use Rattle.lanes.specs.declared.Outcome.TheVariants as outcome
 
-pub record CallAsked (caller size number : ℕ) : Type 0 where
-  pub is : number ≡ call_fault caller size 0
+pub record CallAsked (caller size : ℕ) (r : Result Unit Refusal) : Type 0 where
+  pub is : refusal_in r ≡ call_fault caller size 0
 
 pub record CallPasses (caller size : ℕ) : Type 0 where
   pub others : (number : ℕ) → call_fault caller size number ≡ number
   pub roomy : room ≤ size
 
-abbrev pub refused_by : (number : ℕ) → Answer
-refused_by n = record { told = record { number = n; size = 0 }; outcome = Refusal }
+abbrev pub no_answer : Answer
+no_answer = record { size = 0; outcome = outcome.Refusal }
 
-abbrev pub answered_by : (size : ℕ) → Outcome → Answer
-answered_by k w = record { told = record { number = 0; size = k }; outcome = w }
+abbrev pub told_in : Result Answer Refusal → Told
+told_in r = record { number = refusal_in r; size = (value_or no_answer r).size }
+
+abbrev pub outcome_in : Result Answer Refusal → Outcome
+outcome_in r = (value_or no_answer r).outcome
+
+abbrev pub stock_answer : Searched → Answer
+stock_answer a = record { size = a.size; outcome = outcome.Stock }
+
+abbrev pub stock_answered : Result Searched Refusal → Result Answer Refusal
+stock_answered (Ok a) = Ok (stock_answer a)
+stock_answered (Err e) = Err e

@@ -6,26 +6,23 @@
 --   WritesPlain          every answer, each half of a stock's by itself, refusal and verdict is whole lines, each ended by a line feed alone
 use Rattle.std.specs.Prelude.{◌≡◌, ◌↔◌, Bool, true, List, ℕ, ◌≤◌, ◌<◌, length}
 use Rattle.formats.specs.Limits.{file_most}
-use Rattle.counting.specs.Pairs.{Pair}
+use Rattle.counting.specs.declared.Pair.{Pair}
 use Rattle.frames.specs.EitherEnd.{with_returns, is_plain_text}
 use Rattle.frames.specs.Frames.{or_else}
 use Rattle.matching.specs.Stock.{Stock}
 use Rattle.files.specs.GraphFile.{graph_fault}
 use Rattle.files.specs.StockFile.{sheet_text, plan_text, plan_and_sheet, budget_text}
 use Rattle.files.specs.CertificateFile.{path_text, barrier_text}
-use Rattle.lanes.specs.Entry.{call_fault, answer_fault, GraphOwes, check_fault, check_post, stock_call_fault, StockOwes, most_fault, budget_fault, BudgetOwes, refusal_line, verdict_line}
+use Rattle.lanes.specs.Entry.{call_fault, answer_fault, GraphOwes, check_fault, check_post, stock_call_fault, StockOwes, most_fault, budget_fault, BudgetOwes, refusal_line, verdict_line, Told, SearchedTold, Verdict}
 use Rattle.lanes.specs.Tallies.{Asked, call, tally_after}
 use Rattle.lanes.specs.declared.Tally.{Tally}
-use Rattle.lanes.specs.declared.Told.{Told}
-use Rattle.lanes.specs.declared.Searched.{Searched}
-use Rattle.lanes.specs.declared.Verdict.{Verdict}
 
 -- THE CALLS
 abbrev pub AnsweredAlike : (one other : List ℕ) → Type 0
 AnsweredAlike f g =
     ((c : ℕ) (o v : List ℕ) (r : Told) → GraphOwes c f o r v ↔ GraphOwes c g o r v) ×
     ((c : ℕ) (o v : List ℕ) (r : Told) → StockOwes c f o r v ↔ StockOwes c g o r v) ×
-    ((c b : ℕ) (o v : List ℕ) (r : Searched) → BudgetOwes c b f o r v ↔ BudgetOwes c b g o r v) ×
+    ((c b : ℕ) (o v : List ℕ) (r : SearchedTold) → BudgetOwes c b f o r v ↔ BudgetOwes c b g o r v) ×
     ((c : ℕ) (a : Asked) (n : ℕ) (t : Tally) → tally_after t (call c a f n) ≡ tally_after t (call c a g n))
 
 abbrev pub ReturnsAnswered : Type 0

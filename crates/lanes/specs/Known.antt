@@ -23,14 +23,16 @@ use Rattle.std.specs.Prelude.{◌≡◌, true, false, List, [], ◌∷◌, ◌++
 use Rattle.formats.specs.Kinds.{arc_kind, budget_end, budget_kind, fit_kind, graph_end, graph_kind, lit_kind, mark_kind, sheet_end, sheet_kind, stock_end, stock_kind}
 use Rattle.frames.specs.Frames.{or_else, frame4, frame6, frame8, frame_of4}
 use Rattle.frames.specs.EitherEnd.{with_returns}
-use Rattle.skew.specs.Graph.{Arc, arc, is_barrier, canonical}
-use Rattle.counting.specs.Pairs.{Pair, pair}
+use Rattle.skew.specs.Graph.{arc, is_barrier, canonical}
+use Rattle.skew.specs.declared.Arc.{Arc}
+use Rattle.counting.specs.Pairs.{pair}
+use Rattle.counting.specs.declared.Pair.{Pair}
 use Rattle.matching.specs.Stock.{Stock, is_plan}
 use Rattle.matching.specs.Budget.{gain, is_budgeted, search_one_by_one}
 use Rattle.files.specs.GraphFile.{graph_in, graph_fault, basic_graph_fault}
 use Rattle.files.specs.StockFile.{stock_in, stock_fault, plan_lines, plan_text, plan_and_sheet, sheet_text}
 use Rattle.files.specs.CertificateFile.{path_text, barrier_text}
-use Rattle.lanes.specs.Entry.{sheet_of_file, check_post, answer_fault, stock_call_fault, most_fault, budget_fault, budget_text_of}
+use Rattle.lanes.specs.Entry.{sheet_of_file, check_post, answer_fault, stock_call_fault, most_fault, budget_fault, budget_text_of, Refused, Yes, No}
 use Rattle.lanes.specs.Tallies.{Call, call, check, graph, stock, budget, outcome_of, tallied, after_calls}
 use Rattle.lanes.specs.Promise.{graph_of, g4, g5}
 use Rattle.lanes.specs.StockPromise.{sheet_place, pairs_read}
@@ -38,7 +40,6 @@ use Rattle.lanes.specs.CallerPromise.{own_calls, total_of, counted_calls, zeros}
 use Rattle.lanes.specs.declared.Counts.{Counts}
 use Rattle.lanes.specs.declared.Tally.{Tally}
 use Rattle.lanes.specs.declared.Outcome.TheVariants.{Path, Barrier}
-use Rattle.lanes.specs.declared.Verdict.TheVariants.{Refused, Yes, No}
 
 abbrev pub arc_lines : List Arc → List ℕ
 arc_lines [] = []

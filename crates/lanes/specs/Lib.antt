@@ -3,6 +3,7 @@
 --   Tallies            the tally, and what calls in a row do to it
 --   Verdicts           the check's answer, part by part
 --   Calls              a refused call by value, and an answered one
+--   Taken              a graph or a stock as it is read from a file
 --   GraphCalls         what the graph call answers by value
 --   StockCalls         what the stock call answers by value
 --   BudgetCalls        what the budgeted call answers by value
@@ -18,6 +19,7 @@ pub mod Entry
 pub mod Tallies
 pub mod Verdicts
 pub mod Calls
+pub mod Taken
 pub mod GraphCalls
 pub mod StockCalls
 pub mod BudgetCalls

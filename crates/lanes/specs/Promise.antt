@@ -13,16 +13,16 @@
 --   MarksKept         what L2 changed: a camera with a fit has document 03's mark, one without had 0; marks 1 and 2 are as they were
 --   Marked            G1 to G5 and S1 to S7
 use Rattle.std.specs.Prelude.{◌≡◌, ◌↔◌, true, false, List, [], ◌∷◌, ℕ, ◌≤◌, ◌<◌, eqb, length}
-use Rattle.counting.specs.Pairs.{Pair, pair}
-use Rattle.skew.specs.Graph.{Arc, arc, Graph, is_regular, is_wanted, is_reachable, has_path, is_barrier, canonical}
+use Rattle.counting.specs.Pairs.{pair}
+use Rattle.counting.specs.declared.Pair.{Pair}
+use Rattle.skew.specs.Graph.{arc, Graph, is_regular, is_wanted, is_reachable, has_path, is_barrier, canonical}
+use Rattle.skew.specs.declared.Arc.{Arc}
 use Rattle.skew.specs.Promise.{SomePath}
 use Rattle.matching.specs.Promise.{HasFit, MarkMeans}
 use Rattle.matching.specs.Stock.{is_pairing, greatest, pairing_mark, mark_of, marks_of, is_plan}
 use Rattle.files.specs.GraphFile.{graph_in, basic_graph_fault}
 use Rattle.files.specs.StockFile.{stock_in, stock_fault}
-use Rattle.lanes.specs.Entry.{answer_fault, GraphOwes, stock_call_fault, StockOwes, budget_fault, BudgetOwes}
-use Rattle.lanes.specs.declared.Told.{Told}
-use Rattle.lanes.specs.declared.Searched.{Searched}
+use Rattle.lanes.specs.Entry.{answer_fault, GraphOwes, stock_call_fault, StockOwes, budget_fault, BudgetOwes, Told, SearchedTold}
 
 -- DEMAND 1
 abbrev pub RefusalsLeave : Type 0
@@ -31,7 +31,7 @@ RefusalsLeave =
     (r.number ≡ answer_fault c f (length o)) × (r.size ≡ 0) × (v ≡ o)) ×
     ((c : ℕ) (f o v : List ℕ) (r : Told) → eqb (stock_call_fault c f (length o)) 0 ≡ false → StockOwes c f o r v →
     (r.number ≡ stock_call_fault c f (length o)) × (r.size ≡ 0) × (v ≡ o)) ×
-    ((c b : ℕ) (f o v : List ℕ) (r : Searched) → eqb (budget_fault c b f (length o)) 0 ≡ false → BudgetOwes c b f o r v →
+    ((c b : ℕ) (f o v : List ℕ) (r : SearchedTold) → eqb (budget_fault c b f (length o)) 0 ≡ false → BudgetOwes c b f o r v →
     (r.told.number ≡ budget_fault c b f (length o)) × (r.told.size ≡ 0) × (r.searches ≡ 0) × (v ≡ o))
 
 -- DEMAND 2

@@ -8,13 +8,11 @@ use Rattle.frames.specs.Frames.{or_else}
 use Rattle.files.specs.GraphFile.{graph_in, basic_graph_fault}
 use Rattle.files.specs.CertificateFile.{cert_fault}
 use Rattle.files.specs.SelfArcs.{SelfArc, self_arc_fault}
-use Rattle.lanes.specs.Entry.{call_fault, answer_fault, told, GraphOwes, check_fault, check_post}
+use Rattle.lanes.specs.Entry.{call_fault, answer_fault, told, GraphOwes, check_fault, check_post, Told, Refused}
 use Rattle.lanes.specs.Tallies.{call, graph, tallied, tally_after}
 use Rattle.lanes.specs.Verdicts.{cert_number}
 use Rattle.lanes.specs.declared.Tally.{Tally}
 use Rattle.lanes.specs.declared.Outcome.TheVariants.{Refusal}
-use Rattle.lanes.specs.declared.Told.{Told}
-use Rattle.lanes.specs.declared.Verdict.TheVariants.{Refused}
 
 abbrev pub CallsAsBefore : Type 0
 CallsAsBefore =

@@ -18,14 +18,13 @@
 use Rattle.std.specs.Prelude.{◌≡◌, ◌↔◌, true, List, ◌++◌, ℕ, ◌+◌, ◌*◌, ◌≤◌, ◌<◌, length, take, drop}
 use Rattle.formats.specs.Kinds.{pair_kind}
 use Rattle.formats.specs.Limits.{room}
-use Rattle.counting.specs.Pairs.{Pair}
+use Rattle.counting.specs.declared.Pair.{Pair}
 use Rattle.frames.specs.Frames.{hex_at, body_lines, pairs_in}
 use Rattle.matching.specs.Promise.{HasFit}
 use Rattle.matching.specs.Stock.{Stock, is_pairing, greatest, mark_of, is_plan}
 use Rattle.files.specs.StockFile.{stock_in, alike, plan_text}
 use Rattle.files.specs.Answers.{over}
-use Rattle.lanes.specs.Entry.{sheet_of_file, stock_call_fault, StockOwes}
-use Rattle.lanes.specs.declared.Told.{Told}
+use Rattle.lanes.specs.Entry.{sheet_of_file, stock_call_fault, StockOwes, Told}
 
 abbrev pub AnsweredWith : (file buffer : List ℕ) → (answer : Told) → (after : List ℕ) → Type 0
 AnsweredWith f o r v = (c : ℕ) × ((stock_call_fault c f (length o) ≡ 0) × StockOwes c f o r v)

@@ -1,44 +1,59 @@
-// What the calls by value share (document 01, "Questions put to a call"; document 02, L7).
-//   call_fault  the questions before a file's: 17, then 1; 0 where neither is answered no
-//   refused     a question answered no: nothing is written
-//   answered    what is written, by its size, and what it is
-ghost use Rattle.std.specs.Prelude.{◌≡◌, ◌≤◌};
-ghost use Rattle.formats.specs.Limits.{room};
-ghost use Rattle.lanes.specs.Calls.{CallAsked, refused_by, answered_by};
+// What the calls share (document 01, "Questions put to a call"; document 02, L7).
+//   ask         the questions before a file's: 17, then 1
+//   graph_in    the graph that a file holds, past its questions
+//   stock_in    the stock that a file holds
+ghost use Rattle.std.specs.Prelude.{◌≤◌, length};
+ghost use Rattle.formats.specs.Limits.{arcs_most, fits_most, lines_most};
+ghost use Rattle.lanes.specs.Calls.{CallAsked};
+ghost use Rattle.lanes.specs.Taken.{GraphTaken, StockTaken};
 
-use crate::{Answer, Outcome, Told};
+use arcs::graph::Graph;
+use counting::Pair;
+use files::graphs::read_graph;
+use files::stocks::read_stock;
 use formats::limits::{CALLERS, ROOM};
+use formats::refusals::Refusal;
+use pairing::stock::Stock;
+use skew::Arc;
 
-pub fn call_fault(caller: u32, size: usize) -> u8
+pub fn ask(caller: u32, size: usize) -> Result<(), Refusal>
     ensures { CallAsked caller size result }
 {
     if caller as usize >= CALLERS {
-        return 17;
+        return Err(Refusal::Caller);
     }
     if size < ROOM {
-        return 1;
+        return Err(Refusal::Room);
     }
-    0
+    Ok(())
 }
 
-pub fn refused(number: u8) -> Answer
-    ensures { result ≡ refused_by number }
+// Its arcs go to the front of the slice.
+pub fn graph_in<'a>(file: &[u8], arcs: &'a mut [Arc]) -> Result<Graph<'a>, Refusal>
+    requires { arcs_most ≤ length arcs.old }
+    ensures { GraphTaken file.now result }
 {
-    Answer {
-        told: Told { number, size: 0 },
-        outcome: Outcome::Refusal,
-    }
+    let numbers = read_graph(file, arcs)?;
+    Ok(Graph {
+        pairs: numbers.pairs,
+        source: numbers.source,
+        arcs: &arcs[..numbers.arcs],
+    })
 }
 
-pub fn answered(size: usize, outcome: Outcome) -> Answer
-    requires { size ≤ room }
-    ensures { result ≡ answered_by size outcome }
+// Its fits go to the front of the first slice, its lit pairs to that of the second.
+pub fn stock_in<'a>(
+    file: &[u8],
+    fits: &'a mut [Pair],
+    lit: &'a mut [Pair],
+) -> Result<Stock<'a>, Refusal>
+    requires { (fits_most ≤ length fits.old) × (lines_most ≤ length lit.old) }
+    ensures { StockTaken file.now result }
 {
-    Answer {
-        told: Told {
-            number: 0,
-            size: size as u32,
-        },
-        outcome,
-    }
+    let numbers = read_stock(file, fits, lit)?;
+    Ok(Stock {
+        cameras: numbers.cameras,
+        fits: &fits[..numbers.fits],
+        lit: &lit[..numbers.lit],
+    })
 }

@@ -3,7 +3,7 @@
 //   answer_graph, stock, budget           answered in a lent buffer, and counted for their caller in a lent tally
 //   check                                 a certificate judged; it lends no buffer and counts nothing
 //   graph_calls, stock_calls, budget_calls     the first three by value: what is told, and what it came to, uncounted
-//   calls                                 what those share: the questions before a file's, a refused call, and an answered one
+//   calls                                 what the calls share: the questions before a file's, and what a file holds
 //   tallies                               the tally counted up for a caller (L7), by value and lent
 //   verdicts                              a certificate judged against a graph that was read
 #![tactic(auto)]
@@ -15,23 +15,27 @@ pub mod stock_calls;
 pub mod tallies;
 mod verdicts;
 
-ghost use Rattle.std.specs.Prelude.{◌≡◌, length};
-ghost use Rattle.lanes.specs.Entry.{GraphOwes, check_post, StockOwes, BudgetOwes};
+ghost use Rattle.std.specs.Prelude.{◌≡◌, ◌≤◌, length};
+ghost use Rattle.formats.specs.Limits.{room, searches_most};
+ghost use Rattle.formats.specs.Refusals.{value_or};
+ghost use Rattle.lanes.specs.Entry.{no_searches, told_of, searched_of, verdict_of, GraphOwes, check_post, StockOwes, BudgetOwes};
 ghost use Rattle.lanes.specs.Tallies.{call, graph, stock, budget, tally_after};
 
 use budget_calls::budget_by;
-use files::graphs::read_graph;
+use calls::graph_in;
 use formats::limits::{ARCS_MOST, CALLERS};
+use formats::refusals::Refusal;
 use graph_calls::answer_graph_by;
+use skew::NO_ARC;
 use stock_calls::stock_by;
-use tallies::count;
+use tallies::{count, outcome_of};
 use verdicts::judge;
 
 // The number that the programs name: service.
 pub const SERVICE: u32 = 2;
 
 // What one caller's calls came to; a count at its largest stays there.
-#[derive(Clone, Copy)]
+#[derive(Clone, Copy, PartialEq, Eq)]
 pub struct Counts {
     pub paths: u32,
     pub barriers: u32,
@@ -40,13 +44,13 @@ pub struct Counts {
 }
 
 // Each caller's counts, by the caller's number (document 02, L7).
-#[derive(Clone, Copy)]
+#[derive(Clone, Copy, PartialEq, Eq)]
 pub struct Tally {
     pub sets: [Counts; CALLERS],
 }
 
 // What a call came to: the count that it adds to.
-#[derive(Clone, Copy)]
+#[derive(Clone, Copy, PartialEq, Eq)]
 pub enum Outcome {
     Path,
     Barrier,
@@ -54,83 +58,107 @@ pub enum Outcome {
     Refusal,
 }
 
-// A call's result: 0 and the answer's bytes at the buffer's front, or the refusal and 0.
-#[derive(Clone, Copy)]
-pub struct Told {
-    pub number: u8,
-    pub size: u32,
-}
-
-// A call's result and what it came to, before it is counted.
-#[derive(Clone, Copy)]
+// An answered call: the answer's bytes, at the buffer's front, and what it came to, before it is counted.
+#[derive(Clone, Copy, PartialEq, Eq)]
 pub struct Answer {
-    pub told: Told,
+    pub size: usize,
     pub outcome: Outcome,
 }
 
-// The budgeted call's result: what is told, and how many searches were run, 0 in a refusal.
-#[derive(Clone, Copy)]
+// An answered budgeted call: the answer's bytes, and how many searches were run.
+#[derive(Clone, Copy, PartialEq, Eq)]
 pub struct Searched {
-    pub told: Told,
-    pub searches: u8,
+    pub size: usize,
+    pub searches: usize,
 }
 
-// The budgeted call's result and what it came to, before it is counted.
-#[derive(Clone, Copy)]
-pub struct SearchedAnswer {
-    pub searched: Searched,
-    pub outcome: Outcome,
+// A budgeted call comes to what a stock's does.
+impl From<Searched> for Answer {
+    ghost use Rattle.std.specs.Prelude.{◌≡◌};
+    ghost use Rattle.lanes.specs.Calls.{stock_answer};
+
+    ghost from_gives = { λ searched answer. answer ≡ stock_answer searched };
+
+    fn from(searched: Searched) -> Answer {
+        Answer {
+            size: searched.size,
+            outcome: Outcome::Stock,
+        }
+    }
 }
 
-// The check's answer.
-#[derive(Clone, Copy)]
-pub enum Verdict {
-    Refused(u8),
-    Yes,
-    No,
+// A question of the check answered no: one of the graph's, or one of the certificate's.
+#[derive(Clone, Copy, PartialEq, Eq)]
+pub enum CheckRefusal {
+    Graph(Refusal),
+    Certificate(Refusal),
+}
+
+// To a certificate's 40 is added.
+impl From<CheckRefusal> for u8 {
+    ghost use Rattle.std.specs.Prelude.{◌≡◌};
+    ghost use Rattle.lanes.specs.Entry.{check_number};
+
+    ghost from_gives = { λ refusal number. number ≡ check_number refusal };
+
+    fn from(refusal: CheckRefusal) -> u8 {
+        match refusal {
+            CheckRefusal::Graph(refusal) => u8::from(refusal),
+            CheckRefusal::Certificate(refusal) => 40 + u8::from(refusal),
+        }
+    }
 }
 
 // A graph answered with some regular path from its source to the source's mate, or with the canonical barrier.
-pub fn answer_graph(file: &[u8], caller: u32, out: &mut [u8], tally: &mut Tally) -> Told
-    ensures graph_owes { GraphOwes caller file.now out.old result out.new }
+pub fn answer_graph(
+    file: &[u8],
+    caller: u32,
+    out: &mut [u8],
+    tally: &mut Tally,
+) -> Result<usize, Refusal>
+    ensures graph_owes { GraphOwes caller file.now out.old (told_of result) out.new }
     ensures tally { tally.new ≡ tally_after tally.old (call caller graph file.now (length out.old)) }
+    ensures small { value_or 0 result ≤ room }
 {
     let answer = answer_graph_by(file, caller, out);
-    count(tally, caller, answer.outcome);
-    answer.told
+    count(tally, caller, outcome_of(answer));
+    Ok(answer?.size)
 }
 
 // A stock answered with a plan, directly followed by its standing sheet: which largest plan is left free.
-pub fn stock(file: &[u8], caller: u32, out: &mut [u8], tally: &mut Tally) -> Told
-    ensures stock_owes { StockOwes caller file.now out.old result out.new }
+// kept beside answer_graph, as budget: three lines that name the call and its promise, and the counting is count's
+pub fn stock(file: &[u8], caller: u32, out: &mut [u8], tally: &mut Tally) -> Result<usize, Refusal>
+    ensures stock_owes { StockOwes caller file.now out.old (told_of result) out.new }
     ensures tally { tally.new ≡ tally_after tally.old (call caller stock file.now (length out.old)) }
+    ensures small { value_or 0 result ≤ room }
 {
     let answer = stock_by(file, caller, out);
-    count(tally, caller, answer.outcome);
-    answer.told
+    count(tally, caller, outcome_of(answer));
+    Ok(answer?.size)
 }
 
 // A stock answered with what at most `most` searches come to: which such pairing is left free.
-pub fn budget(file: &[u8], caller: u32, most: u32, out: &mut [u8], tally: &mut Tally) -> Searched
-    ensures budget_owes { BudgetOwes caller most file.now out.old result out.new }
+pub fn budget(
+    file: &[u8],
+    caller: u32,
+    most: u32,
+    out: &mut [u8],
+    tally: &mut Tally,
+) -> Result<Searched, Refusal>
+    ensures budget_owes { BudgetOwes caller most file.now out.old (searched_of result) out.new }
     ensures tally { tally.new ≡ tally_after tally.old (call caller (budget most) file.now (length out.old)) }
+    ensures small { ((value_or no_searches result).size ≤ room) × ((value_or no_searches result).searches ≤ searches_most) }
 {
     let answer = budget_by(file, caller, most, out);
-    count(tally, caller, answer.outcome);
-    answer.searched
+    count(tally, caller, outcome_of(answer.map(Answer::from)));
+    answer
 }
 
-// A certificate checked: the graph's questions first, then the certificate's with 40 added, then whether it holds.
-pub fn check(graph: &[u8], cert: &[u8]) -> Verdict
-    ensures { result ≡ check_post graph.now cert.now }
+// A certificate checked: the graph's questions first, then the certificate's, then whether it holds.
+pub fn check(graph: &[u8], cert: &[u8]) -> Result<bool, CheckRefusal>
+    ensures { verdict_of result ≡ check_post graph.now cert.now }
 {
-    let mut tails = [0u8; ARCS_MOST];
-    let mut heads = [0u8; ARCS_MOST];
-    let g = read_graph(graph, &mut tails, &mut heads);
-    let number = g.number;
-    if number != 0 {
-        return Verdict::Refused(number);
-    }
-    let arcs = g.arcs;
-    judge(cert, g.pairs, g.source, &tails[..arcs], &heads[..arcs])
+    let mut arcs = [NO_ARC; ARCS_MOST];
+    let graph = graph_in(graph, &mut arcs).map_err(CheckRefusal::Graph)?;
+    judge(cert, &graph).map_err(CheckRefusal::Certificate)
 }

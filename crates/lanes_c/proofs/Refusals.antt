@@ -22,10 +22,8 @@ use Rattle.files.specs.GraphFile.{graph_in, graph_fault}
 use Rattle.files.proofs.Asked.{graph_refusal, stock_refusal}
 use Rattle.files.specs.StockFile.{stock_fault}
 use Rattle.files.specs.CertificateFile.{cert_fault, cert_holds}
-use Rattle.lanes.specs.Entry.{told, call_fault, answer_fault, stock_call_fault, check_fault, check_post, most_fault, budget_fault, searched}
+use Rattle.lanes.specs.Entry.{told, call_fault, answer_fault, stock_call_fault, Verdict, Refused, Yes, No, check_fault, check_post, most_fault, budget_fault, searched}
 use Rattle.lanes.proofs.CallFaults.{call_is}
-use Rattle.lanes.specs.declared.Verdict.{Verdict}
-use Rattle.lanes.specs.declared.Verdict.TheVariants.{Refused, Yes, No}
 use Rattle.kept.specs.State.{is_kept, come_back, fault_of}
 use Rattle.kept.specs.Block.{state_of, text_of}
 use Rattle.lanes_c.specs.Exported.{Unpacks, CallsTell, BackTells, UnpacksSearched, BudgetTells, said, SaysWhich, CheckTells}

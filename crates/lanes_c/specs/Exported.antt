@@ -16,18 +16,14 @@
 --   CountsFollow                                      so the sixteen counts after a call are those of the tally after it, for the next call to begin with;
 --                                                     a call by 4 and above leaves them as they were; and what is told is owed
 use Rattle.std.specs.Prelude.{◌≡◌, ◌↔◌, false, List, [], ◌∷◌, ◌++◌, ℕ, ◌+◌, ◌*◌, ◌/◌, ◌%◌, ◌≤◌, ◌<◌, length, get_or, replicate}
-use Rattle.lanes.specs.Entry.{told, answer_fault, stock_call_fault, check_post, budget_fault, searched}
+use Rattle.lanes.specs.Entry.{Told, told, answer_fault, stock_call_fault, Verdict, Refused, Yes, No, check_post, budget_fault, SearchedTold, searched}
 use Rattle.lanes.specs.Tallies.{counts_of, Call, tally_after}
 use Rattle.lanes.specs.CallerPromise.{HasFour, count_of, is_counted, zeros}
 use Rattle.kept.specs.State.{come_back}
 use Rattle.kept.specs.Block.{told_of}
 use Rattle.lanes.specs.declared.Counts.{Counts}
 use Rattle.lanes.specs.declared.Tally.{Tally}
-use Rattle.lanes.specs.declared.Told.{Told}
-use Rattle.lanes.specs.declared.Searched.{Searched}
 use Rattle.lanes.specs.declared.Outcome.TheVariants.{Path, Barrier, Stock, Refusal}
-use Rattle.lanes.specs.declared.Verdict.{Verdict}
-use Rattle.lanes.specs.declared.Verdict.TheVariants.{Refused, Yes, No}
 
 abbrev pub counts_at : (all : List ℕ) → (at : ℕ) → Counts
 counts_at cs i = record { paths = get_or cs i 0; barriers = get_or cs (i + 1) 0; stocks = get_or cs (i + 2) 0; refusals = get_or cs (i + 3) 0 }
@@ -67,10 +63,10 @@ abbrev pub BackTells : Type 0
 BackTells = (block : List ℕ) (name lent : ℕ) → Unpacks (told_of block (come_back name lent))
 
 -- 2 to the power of 32, and of 40
-abbrev pub packed_searched : Searched → ℕ
+abbrev pub packed_searched : SearchedTold → ℕ
 packed_searched r = 1099511627776 * r.searches + packed r.told
 
-abbrev pub UnpacksSearched : Searched → Type 0
+abbrev pub UnpacksSearched : SearchedTold → Type 0
 UnpacksSearched r =
     (packed_searched r % 256 ≡ r.told.number) × (packed_searched r / 256 % 4294967296 ≡ r.told.size) ×
     (packed_searched r / 1099511627776 ≡ r.searches)

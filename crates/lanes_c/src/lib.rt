@@ -3,24 +3,31 @@
 //   lanes_power_on, lanes_bring, lanes_keep, lanes_come_back, lanes_forget     those of kept pairings (document 02, L8), over a lent state
 //   counts_at, tally_of                                  four of the sixteen counts as a caller's, and all as a tally
 //   put_tally                                            a tally as sixteen counts
-//   count                                                one more of the caller's count that an outcome names
-//   pack, pack_searched                                  a call's result as one number; the budgeted call's
+//   number_of                                            the number of a refusal, 0 where there is none
+//   pack                                                 a call's result as one number
+//   told                                                 the same of an answer, which is counted for its caller
 #![tactic(auto)]
 
-ghost use Rattle.std.specs.Prelude.{◌≡◌, ◌≤◌, length, replicate};
-ghost use Rattle.lanes.specs.Entry.{GraphOwes, StockOwes, BudgetOwes, check_post};
+ghost use Rattle.std.specs.Prelude.{◌≡◌, ◌≤◌, ◌<◌, length, replicate};
+ghost use Rattle.formats.specs.Limits.{room};
+ghost use Rattle.formats.specs.Refusals.{refusal_in, value_or};
+ghost use Rattle.lanes.specs.Entry.{told_of, GraphOwes, StockOwes, BudgetOwes, check_post};
+ghost use Rattle.lanes.specs.Calls.{no_answer, told_in, outcome_in};
 ghost use Rattle.lanes.specs.Tallies.{call, graph, stock, budget, tallied, tally_after};
 ghost use Rattle.kept.specs.State.{bring, keep_as, come_back, forget};
-ghost use Rattle.kept.specs.Block.{block_size, told_of, text_of, Owes};
+ghost use Rattle.kept.specs.Block as kept;
+ghost use Rattle.kept.specs.Block.{block_size, text_of, Owes};
 ghost use Rattle.files.specs.Answers.{over};
 ghost use Rattle.lanes_c.specs.Exported.{counts_at, tally_of, all_counts, packed, packed_searched, said, Called};
 
+use formats::refusals::Refusal;
 use kept::{STATE, bring, come_back, forget, keep, power_on};
 use lanes::budget_calls::budget_by;
 use lanes::graph_calls::answer_graph_by;
 use lanes::stock_calls::stock_by;
-use lanes::tallies::counted;
-use lanes::{Counts, Outcome, Searched, Tally, Told, Verdict, check};
+use lanes::tallies::{counted, outcome_of};
+use lanes::{Answer, Counts, Tally, check};
+use std::array;
 
 fn counts_at(all: &[u32; 16], at: usize) -> Counts
     requires { at ≤ 12 }
@@ -38,22 +45,15 @@ fn tally_of(all: &[u32; 16]) -> Tally
     ensures { result ≡ tally_of all.now }
 {
     Tally {
-        sets: [
-            counts_at(all, 0),
-            counts_at(all, 4),
-            counts_at(all, 8),
-            counts_at(all, 12),
-        ],
+        sets: array::from_fn(|caller| counts_at(all, 4 * caller)),
     }
 }
 
+// kept: sixteen counts written out; by chunks of four it is a loop with an invariant, and no plainer
 fn put_tally(all: &mut [u32; 16], tally: Tally)
     ensures { all.new ≡ all_counts tally }
 {
-    let foreman = tally.sets[0];
-    let grader = tally.sets[1];
-    let service = tally.sets[2];
-    let stores = tally.sets[3];
+    let [foreman, grader, service, stores] = tally.sets;
     *all = [
         foreman.paths,
         foreman.barriers,
@@ -74,23 +74,32 @@ fn put_tally(all: &mut [u32; 16], tally: Tally)
     ];
 }
 
-fn count(all: &mut [u32; 16], caller: u32, which: Outcome)
-    ensures { all.new ≡ all_counts (tallied (tally_of all.old) caller which) }
+// kept: 0 for no refusal, as the C interface has it
+fn number_of<T: Copy>(answer: Result<T, Refusal>) -> u8
+    ensures { result ≡ refusal_in answer }
 {
-    put_tally(all, counted(tally_of(all), caller, which));
+    match answer {
+        Ok(_) => 0,
+        Err(refusal) => u8::from(refusal),
+    }
 }
 
-fn pack(told: Told) -> u64
-    ensures { result ≡ packed told }
+fn pack(answer: Result<usize, Refusal>) -> u64
+    requires { value_or 0 answer ≤ room }
+    ensures value { result ≡ packed (told_of answer) }
+    ensures small { result < 1099511627776 }
 {
-    256 * (told.size as u64) + (told.number as u64)
+    256 * (answer.unwrap_or(0) as u64) + u64::from(number_of(answer))
 }
 
-fn pack_searched(searched: Searched) -> u64
-    ensures { result ≡ packed_searched searched }
+fn told(answer: Result<Answer, Refusal>, caller: u32, all: &mut [u32; 16]) -> u64
+    requires { (value_or no_answer answer).size ≤ room }
+    ensures value { result ≡ packed (told_in answer) }
+    ensures small { result < 1099511627776 }
+    ensures counted { all.new ≡ all_counts (tallied (tally_of all.old) caller (outcome_in answer)) }
 {
-    let told = searched.told;
-    1099511627776 * (searched.searches as u64) + pack(told)
+    put_tally(all, counted(tally_of(all), caller, outcome_of(answer)));
+    pack(answer.map(|answer| answer.size))
 }
 
 #[unsafe(no_mangle)]
@@ -102,12 +111,10 @@ pub extern "C" fn lanes_graph(
 ) -> u64
     ensures { Called packed (GraphOwes caller file.now out.old) (tally_after (tally_of tally.old) (call caller graph file.now (length out.old))) result out.new tally.new }
 {
-    let answer = answer_graph_by(file, caller, out);
-    let outcome = answer.outcome;
-    count(tally, caller, outcome);
-    pack(answer.told)
+    told(answer_graph_by(file, caller, out), caller, tally)
 }
 
+// kept beside lanes_graph, as lanes_budget: each is a name of the C interface
 #[unsafe(no_mangle)]
 pub extern "C" fn lanes_stock(
     file: &[u8],
@@ -117,10 +124,7 @@ pub extern "C" fn lanes_stock(
 ) -> u64
     ensures { Called packed (StockOwes caller file.now out.old) (tally_after (tally_of tally.old) (call caller stock file.now (length out.old))) result out.new tally.new }
 {
-    let answer = stock_by(file, caller, out);
-    let outcome = answer.outcome;
-    count(tally, caller, outcome);
-    pack(answer.told)
+    told(stock_by(file, caller, out), caller, tally)
 }
 
 #[unsafe(no_mangle)]
@@ -134,20 +138,17 @@ pub extern "C" fn lanes_budget(
     ensures { Called packed_searched (BudgetOwes caller most file.now out.old) (tally_after (tally_of tally.old) (call caller (budget most) file.now (length out.old))) result out.new tally.new }
 {
     let answer = budget_by(file, caller, most, out);
-    let outcome = answer.outcome;
-    count(tally, caller, outcome);
-    pack_searched(answer.searched)
+    let searches = answer.map_or(0, |searched| searched.searches);
+    1099511627776 * (searches as u64) + told(answer.map(Answer::from), caller, tally)
 }
 
 #[unsafe(no_mangle)]
 pub extern "C" fn lanes_check(graph: &[u8], cert: &[u8]) -> u8
     ensures { result ≡ said (check_post graph.now cert.now) }
 {
-    let verdict = check(graph, cert);
-    match verdict {
-        Verdict::Refused(number) => number,
-        Verdict::Yes => 1,
-        Verdict::No => 0,
+    match check(graph, cert) {
+        Ok(holds) => u8::from(holds),
+        Err(refusal) => u8::from(refusal),
     }
 }
 
@@ -162,28 +163,27 @@ pub extern "C" fn lanes_power_on(state: &mut [u8; STATE])
 pub extern "C" fn lanes_bring(state: &mut [u8; STATE], file: &[u8]) -> u8
     ensures { Owes state.old (bring file.now) result state.new }
 {
-    bring(state, file)
+    number_of(bring(state, file))
 }
 
 #[unsafe(no_mangle)]
 pub extern "C" fn lanes_keep(state: &mut [u8; STATE], name: u8, file: &[u8]) -> u8
     ensures { Owes state.old (keep_as name file.now) result state.new }
 {
-    keep(state, name, file)
+    number_of(keep(state, name, file))
 }
 
 #[unsafe(no_mangle)]
 pub extern "C" fn lanes_come_back(state: &[u8; STATE], name: u8, out: &mut [u8]) -> u64
-    ensures value { result ≡ packed (told_of state.now (come_back name (length out.old))) }
+    ensures value { result ≡ packed (kept.told_of state.now (come_back name (length out.old))) }
     ensures bytes { out.new ≡ over (text_of state.now (come_back name (length out.old))) out.old }
 {
-    let told = come_back(state, name, out);
-    pack(told)
+    pack(come_back(state, name, out))
 }
 
 #[unsafe(no_mangle)]
 pub extern "C" fn lanes_forget(state: &mut [u8; STATE], name: u8) -> u8
     ensures { Owes state.old (forget name) result state.new }
 {
-    forget(state, name)
+    number_of(forget(state, name))
 }

@@ -1,7 +1,7 @@
 -- A number of searches as it is typed, read digit by digit.
---   reading_start, reading_step, reading_end     nothing is read; one digit more; all are
---   reading_none                               a byte is no digit
---   said_known                                what is said of some texts, by computing
+--   reading_step, reading_end     one digit more is read; all are
+--   reading_none                  a byte is no digit
+--   said_known                    what is said of some texts, by computing
 use mathlib.Core.Path.{◌≡◌, refl, sym, ◌∙◌}
 use mathlib.Core.Bool.{true, false}
 use mathlib.Core.List.{List, [], ◌∷◌}
@@ -10,7 +10,6 @@ use native.Mathlib.Omega.{arith}
 use native.Mathlib.Numerals.{add-one}
 use lib.ListN.{length, get_or, drop, drop_of_length-le}
 use lib.Seq.{drop-cons}
-use borrow.Author.Tests.{ne_eqb}
 use Rattle.counting.specs.Tests.{all}
 use Rattle.lanes_print.specs.Argument.{is_decimal, decimal_from, too_many, most_said, Reading, KnownArguments}
 
@@ -19,9 +18,6 @@ cut_off : (x y : ℕ) (ds : List ℕ) → min x too_many ≡ min y too_many → 
 unfolding decimal_from
 cut_off x y [] h = h
 cut_off x y (d ∷ ds) h = cut_off (10 * x + (d - 48)) (10 * y + (d - 48)) ds (omega arith)
-
-pub reading_start : (text : List ℕ) → (length text ≡ 0 → ⊥) → Reading text 0 0
-reading_start text some = record { within = omega arith; low = omega arith; rest = rw (ne_eqb (length text) 0 some) }
 
 module _ {text : List ℕ} {v i : ℕ} (S : Reading text v i) where
   module _ (h : i < length text) where

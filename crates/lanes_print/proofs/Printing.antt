@@ -1,6 +1,7 @@
 -- From what a call owes to what is printed.
 --   text_prints, line_prints                   a text at the front of a buffer; a line written there
---   answer_shows, refusal_shows                what a call told, as it is printed: its answer as it stands, the line of its refusal
+--   told_mapped                                a call's answer by its size alone tells the same
+--   refusal_shows                              a refusal, as it is printed: its line
 --   shown                                      it is a right answer, or the line of the refusal
 --   graph_prints, stock_prints, budget_prints      the same of each call, where there is room
 use mathlib.Core.Path.{◌≡◌, refl, ap, sym, subst, ◌∙◌}
@@ -11,7 +12,10 @@ use native.Mathlib.Omega.{arith}
 use borrow.Author.Tests.{le-leb, eqb-true, eqb-false, ne_eqb}
 use lib.Dec.{eqb}
 use lib.ListN.{length, drop, length-append}
+use Rattle.std.proofs.Common.{Result, Ok, Err, MatchResult, IsOkAnd}
 use Rattle.formats.specs.Limits.{room}
+use Rattle.formats.specs.Refusals.{refusal_number, refusal_in, value_or}
+use Rattle.formats.specs.declared.refusals.Refusal.{Refusal}
 use Rattle.io.proofs.Counting.{prefix_len_of_le}
 use Rattle.counting.proofs.Booleans.{true_false}
 use Rattle.skew.specs.Graph.{has_path, is_wanted, canonical}
@@ -22,9 +26,8 @@ use Rattle.files.specs.GraphFile.{graph_in, graph_fault}
 use Rattle.files.specs.StockFile.{stock_in, stock_fault, plan_and_sheet}
 use Rattle.files.specs.CertificateFile.{path_text, barrier_text}
 use Rattle.files.specs.Answers.{over}
-use Rattle.lanes.specs.Entry.{refusal_line, told, answer_fault, stock_call_fault, Answers, GraphOwes, StockOwes, most_fault, budget_fault, budget_text_of, BudgetOwes}
-use Rattle.lanes.specs.declared.Told.{Told}
-use Rattle.lanes.specs.declared.Searched.{Searched}
+use Rattle.frames.proofs.Questions.{refusal_some}
+use Rattle.lanes.specs.Entry.{told_of, Told, SearchedTold, refusal_line, told, answer_fault, stock_call_fault, Answers, GraphOwes, StockOwes, most_fault, budget_fault, budget_text_of, BudgetOwes}
 use Rattle.lanes_print.specs.Printed.{RefusedOr, GraphAnswer, GraphText, StockAnswer, StockText, BudgetAnswer, BudgetText, Shows, PrintsOne, Prints}
 
 -- A TEXT AT THE FRONT
@@ -37,15 +40,17 @@ pub line_prints : {before text after : List ℕ} {size next : ℕ} → Written b
 line_prints w h = let o = written_over w h in text_prints o.0 o.1
 
 -- A CALL'S ANSWER, or the line of its refusal
-pub answer_shows : {r : Told} {o : List ℕ} → r.number ≡ 0 → Shows r o o r.size
-answer_shows e = record { bytes = rw e; told = rw e }
+-- a result mapped to its size tells the same
+pub told_mapped : {A : Type 0} (size : A → ℕ) (none : A) → size none ≡ 0 → (r : Result A Refusal) (m : Result ℕ Refusal) →
+    MatchResult r (λ x. IsOkAnd m (λ k. k ≡ size x)) (λ e. m ≡ Err e) → told_of m ≡ record { number = refusal_in r; size = size (value_or none r) }
+told_mapped size none z (Ok x) (Ok k) h = ap (λ (n : ℕ). told 0 n) h
+told_mapped size none z (Ok x) (Err e) h = absurd h
+told_mapped size none z (Err e) m h = rw (h, z)
 
-pub refusal_shows : {r : Told} {o w : List ℕ} {s : ℕ} → (r.number ≡ 0 → ⊥) → Written o 0 5 (refusal_line r.number) w s → 5 ≤ length o →
-    Shows r o w s
-refusal_shows {r} e w h =
-    let z = ne_eqb r.number 0 e in
-    let q = written_over w h in
-    record { bytes = rw z q.0; told = rw z (q.1 ∙ frame4_length 126 r.number) }
+pub refusal_shows : (e : Refusal) {o w : List ℕ} {s : ℕ} → PrintsOne (refusal_line (refusal_number e)) o w s → Shows (told_of (Err e)) o w s
+refusal_shows e p =
+    let z = ne_eqb (refusal_number e) 0 (refusal_some e) in
+    record { bytes = rw z p.written.bytes; told = rw z (p.written.told ∙ frame4_length 126 (refusal_number e)) }
 
 module _ {n : ℕ} {Right : List ℕ → Type 0} {o v w : List ℕ} {r : Told} {s : ℕ} (refused : eqb n 0 ≡ false → (r ≡ told n 0) × (v ≡ o))
     (answered : n ≡ 0 → (t : List ℕ) × (Right t × Answers t o r v)) (k : Shows r v w s) where
@@ -98,10 +103,10 @@ module _ (f : List ℕ) {o v w : List ℕ} {r : Told} {s : ℕ} (h : room ≤ le
       subst (λ (n : ℕ). Prints (RefusedOr n (StockAnswer f)) o w s) e
       (shown g.0 (λ z. let q = g.1 z in (plan_and_sheet (stock_in f) q.0, ((q.0, (q.1.0, refl)), q.1.1))) k)
 
-pub budget_prints : (b : ℕ) (f : List ℕ) {o v w : List ℕ} {r : Searched} {s : ℕ} → room ≤ length o → BudgetOwes 2 b f o r v → Shows r.told v w s →
+pub budget_prints : (b : ℕ) (f : List ℕ) {o v w : List ℕ} {r : SearchedTold} {s : ℕ} → room ≤ length o → BudgetOwes 2 b f o r v → Shows r.told v w s →
     Prints (BudgetText b f) o w s
 budget_prints b f {o} {v} {w} {r} {s} h g k =
     let e : budget_fault 2 b f (length o) ≡ or_else (most_fault b) (stock_fault f) = rw (le-leb room (length o) h) in
     subst (λ (n : ℕ). Prints (RefusedOr n (BudgetAnswer b f)) o w s) e
-    (shown (λ z. let q = g.0 z in (ap (λ (x : Searched). x.told) q.0, q.1))
-    (λ z. let q = g.1 z in (budget_text_of (stock_in f) b q.0, ((q.0, (q.1.0, refl)), (ap (λ (x : Searched). x.told) q.1.1, q.1.2)))) k)
+    (shown (λ z. let q = g.0 z in (ap (λ (x : SearchedTold). x.told) q.0, q.1))
+    (λ z. let q = g.1 z in (budget_text_of (stock_in f) b q.0, ((q.0, (q.1.0, refl)), (ap (λ (x : SearchedTold). x.told) q.1.1, q.1.2)))) k)

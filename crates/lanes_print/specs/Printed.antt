@@ -11,7 +11,7 @@
 use Rattle.std.specs.Prelude.{◌≡◌, true, false, List, ℕ, eqb}
 use Rattle.io.specs.Counts.{IsPrefixLen}
 use Rattle.counting.specs.Tests.{pick}
-use Rattle.counting.specs.Pairs.{Pair}
+use Rattle.counting.specs.declared.Pair.{Pair}
 use Rattle.skew.specs.Graph.{has_path, is_wanted, canonical}
 use Rattle.matching.specs.Stock.{is_plan}
 use Rattle.matching.specs.Budget.{is_budgeted}
@@ -19,9 +19,8 @@ use Rattle.files.specs.GraphFile.{graph_in, graph_fault}
 use Rattle.files.specs.StockFile.{stock_in, stock_fault, plan_and_sheet}
 use Rattle.files.specs.CertificateFile.{path_text, barrier_text}
 use Rattle.frames.specs.Frames.{or_else}
-use Rattle.lanes.specs.Entry.{refusal_line, check_post, verdict_line, most_fault, budget_text_of}
+use Rattle.lanes.specs.Entry.{Told, refusal_line, check_post, verdict_line, most_fault, budget_text_of}
 use Rattle.files.specs.Answers.{over, WrittenFirst}
-use Rattle.lanes.specs.declared.Told.{Told}
 
 -- WHAT IS PRINTED
 abbrev pub RefusedOr : (number : ℕ) → (Right : List ℕ → Type 0) → (text : List ℕ) → Type 0

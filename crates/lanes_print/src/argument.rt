@@ -14,32 +14,23 @@ fn with_digit(value: u32, digit: u8) -> u32
     requires le_digit { (48 ≤ digit) × (digit ≤ 57) }
     ensures { result ≡ min (10 * value + (digit - 48)) too_many }
 {
-    let next = 10 * value + (digit - 48) as u32;
-    if next > TOO_MANY {
-        return TOO_MANY;
-    }
-    next
+    (10 * value + u32::from(digit - b'0')).min(TOO_MANY)
 }
 
+// kept: a number read by hand, since the library's wants text, and takes a sign; and a number for none, which is a reading (docs/DECISIONS.md, R26)
 pub fn most_said(text: &[u8]) -> u32
     ensures { result ≡ most_said text.now }
 {
-    if text.len() == 0 {
+    if text.is_empty() {
         return TOO_MANY;
     }
-    let mut value: u32 = 0;
-    let mut i: usize = 0;
-    // invariant: specs/Argument said_from, of the value and of what is left of the text; falls: bytes left
-    while i < text.len() {
-        let digit = text[i];
-        if digit < 48 {
+    let mut value = 0;
+    // invariant: specs/Argument said_from, of the value and of what is left of the text
+    for digit in text {
+        if !digit.is_ascii_digit() {
             return TOO_MANY;
         }
-        if digit > 57 {
-            return TOO_MANY;
-        }
-        value = with_digit(value, digit);
-        i += 1;
+        value = with_digit(value, *digit);
     }
     value
 }

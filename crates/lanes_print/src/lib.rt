@@ -3,44 +3,56 @@
 //   print_graph, print_stock, print_budget, print_check   what each program prints
 //   argument                                              a number of searches as it is typed
 //   show, show_verdict                                    what a call told, and what the check says
+//   put_line                                              a line of a kind and a number, alone
 #![tactic(auto)]
 
 mod argument;
 
 ghost use Rattle.std.specs.Prelude.{◌≤◌, length};
+ghost use Rattle.formats.specs.Kinds.{kind_number};
 ghost use Rattle.formats.specs.Limits.{room};
-ghost use Rattle.lanes.specs.Entry.{verdict_line};
+ghost use Rattle.frames.specs.Frames.{frame4};
+ghost use Rattle.lanes.specs.Entry.{told_of, verdict_of, verdict_line};
 ghost use Rattle.lanes_print.specs.Argument.{most_said};
 ghost use Rattle.lanes_print.specs.Printed.{Shows, Prints, PrintsOne, GraphText, StockText, BudgetText, verdict_printed};
 
 use argument::most_said;
-use formats::kinds;
-use frames::write::put_frame4;
+use formats::kinds::Kind;
+use formats::refusals::Refusal;
+use frames::write::put_frame;
 use lanes::budget_calls::budget_by;
 use lanes::graph_calls::answer_graph_by;
 use lanes::stock_calls::stock_by;
-use lanes::{SERVICE, Told, Verdict, check};
+use lanes::{CheckRefusal, SERVICE, check};
+
+// A line of a kind and a number.
+fn put_line(out: &mut [u8], kind: Kind, number: u8) -> usize
+    requires { 5 ≤ length out.old }
+    ensures { PrintsOne (frame4 (kind_number kind) number) out.old out.new result }
+{
+    put_frame(out, 0, kind, &[usize::from(number)])
+}
 
 // An answer is printed as it stands; in a refusal's place its line.
-fn show(out: &mut [u8], told: Told) -> usize
+fn show(out: &mut [u8], told: Result<usize, Refusal>) -> usize
     requires { 5 ≤ length out.old }
-    ensures { Shows told out.old out.new result }
+    ensures { Shows (told_of told) out.old out.new result }
 {
-    if told.number == 0 {
-        return told.size as usize;
+    match told {
+        Ok(size) => size,
+        Err(refusal) => put_line(out, Kind::Refusal, u8::from(refusal)),
     }
-    put_frame4(out, 0, kinds::REFUSAL, told.number as usize)
 }
 
 // The check's line.
-fn show_verdict(out: &mut [u8], verdict: Verdict) -> usize
+// kept beside show: a check's yes is a line, a call's answer stands already
+fn show_verdict(out: &mut [u8], verdict: Result<bool, CheckRefusal>) -> usize
     requires { 5 ≤ length out.old }
-    ensures { PrintsOne (verdict_line verdict) out.old out.new result }
+    ensures { PrintsOne (verdict_line (verdict_of verdict)) out.old out.new result }
 {
     match verdict {
-        Verdict::Refused(number) => put_frame4(out, 0, kinds::REFUSAL, number as usize),
-        Verdict::Yes => put_frame4(out, 0, kinds::VERDICT, 1),
-        Verdict::No => put_frame4(out, 0, kinds::VERDICT, 0),
+        Ok(holds) => put_line(out, Kind::Verdict, u8::from(holds)),
+        Err(refusal) => put_line(out, Kind::Refusal, u8::from(refusal)),
     }
 }
 
@@ -48,25 +60,25 @@ pub fn print_graph(file: &[u8], out: &mut [u8]) -> usize
     requires { room ≤ length out.old }
     ensures { Prints (GraphText file.now) out.old out.new result }
 {
-    let answer = answer_graph_by(file, SERVICE, out);
-    show(out, answer.told)
+    let told = answer_graph_by(file, SERVICE, out).map(|answer| answer.size);
+    show(out, told)
 }
 
+// kept beside print_graph, as print_budget: two lines that name the call and what is promised of the text
 pub fn print_stock(file: &[u8], out: &mut [u8]) -> usize
     requires { room ≤ length out.old }
     ensures { Prints (StockText file.now) out.old out.new result }
 {
-    let answer = stock_by(file, SERVICE, out);
-    show(out, answer.told)
+    let told = stock_by(file, SERVICE, out).map(|answer| answer.size);
+    show(out, told)
 }
 
 pub fn print_budget(argument: &[u8], file: &[u8], out: &mut [u8]) -> usize
     requires { room ≤ length out.old }
     ensures { Prints (BudgetText (most_said argument.now) file.now) out.old out.new result }
 {
-    let answer = budget_by(file, SERVICE, most_said(argument), out);
-    let searched = answer.searched;
-    show(out, searched.told)
+    let told = budget_by(file, SERVICE, most_said(argument), out).map(|searched| searched.size);
+    show(out, told)
 }
 
 pub fn print_check(graph: &[u8], cert: &[u8], out: &mut [u8]) -> usize

@@ -14,7 +14,7 @@ use lib.Dec.{eqb}
 use lib.ListN.{length, drop}
 use borrow.Author.Tests.{eqb-true}
 use Rattle.counting.specs.Lists.{In, Within, Distinct}
-use Rattle.counting.specs.Pairs.{Pair}
+use Rattle.counting.specs.declared.Pair.{Pair}
 use Rattle.counting.proofs.Booleans.{and_two, same_or}
 use Rattle.skew.specs.Graph.{Graph, mate, arc_at, nodes_along, end_of, is_regular, is_wanted, is_reachable, has_path}
 use Rattle.skew.specs.Paths.{tail, head, Joins, WellFormed}

@@ -18,7 +18,7 @@ use lib.ListN.{length}
 use borrow.Author.Tests.{eqb-true, eqb-false, eq-eqb, ne_eqb, not-true}
 use Rattle.counting.specs.Tests.{any, below, keep}
 use Rattle.counting.specs.Lists.{In, Distinct, find}
-use Rattle.counting.specs.Pairs.{Pair}
+use Rattle.counting.specs.declared.Pair.{Pair}
 use Rattle.counting.proofs.Booleans.{and_two, and_three, and_both, or_right, or_cases, or_false_left, or_false_right, by_test, true_false, same_or}
 use Rattle.counting.proofs.Membership.{any_some, some_any}
 use Rattle.counting.proofs.Kept.{in_keep, keep_in, keep_distinct, keep_or, found}

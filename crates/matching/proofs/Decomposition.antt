@@ -9,7 +9,7 @@ use Prim.Native.Nat.{ℕ, ◌+◌, ◌*◌, ◌≤◌, ◌<◌}
 use native.Mathlib.Omega.{arith}
 use lib.ListN.{length}
 use borrow.Author.Tests.{not-true}
-use Rattle.counting.specs.Pairs.{Pair}
+use Rattle.counting.specs.declared.Pair.{Pair}
 use Rattle.counting.proofs.Booleans.{and_two, true_false, same_or}
 use Rattle.skew.specs.Graph.{Graph, mate, arc_at, is_reachable, has_path, class_at, canonical}
 use Rattle.skew.specs.Paths.{tail, head, WellFormed}

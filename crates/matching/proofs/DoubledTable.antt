@@ -19,11 +19,12 @@ use lib.ListN.{length, length-append}
 use borrow.Author.Tests.{eqb-true, eqb-false, eq-eqb, ne_eqb, ltb-true, ltb-false, lt-ltb}
 use Rattle.counting.specs.Tests.{all, below}
 use Rattle.counting.specs.Lists.{In}
-use Rattle.counting.specs.Pairs.{Pair}
+use Rattle.counting.specs.declared.Pair.{Pair}
 use Rattle.counting.proofs.Booleans.{and_both, by_test, same_or}
 use Rattle.counting.proofs.Membership.{in_get_d, get_d_in}
 use Rattle.counting.proofs.Range.{up_in, in_up, length_up}
-use Rattle.skew.specs.Graph.{Arc, arc, no_arc, Graph, mate, arc_at, mates_fit, has_two_ends}
+use Rattle.skew.specs.Graph.{arc, no_arc, Graph, mate, arc_at, mates_fit, has_two_ends}
+use Rattle.skew.specs.declared.Arc.{Arc}
 use Rattle.skew.specs.Paths.{head, WellFormed}
 use Rattle.skew.proofs.Mates.{mate_is}
 use Rattle.matching.specs.Matching.{FitsBelow, Fits, Matching}

@@ -16,7 +16,8 @@ use lib.ListN.{length}
 use borrow.Author.Tests.{eqb-true, eq-eqb, ltb-true, ltb-false, not-true}
 use Rattle.counting.specs.Tests.{all, any, keep}
 use Rattle.counting.specs.Lists.{In}
-use Rattle.counting.specs.Pairs.{Pair, pair}
+use Rattle.counting.specs.Pairs.{pair}
+use Rattle.counting.specs.declared.Pair.{Pair}
 use Rattle.counting.proofs.Booleans.{and_two, and_both, or_right, or_cases, by_test, true_false, same_or}
 use Rattle.counting.proofs.Membership.{in_left, in_right, in_append, any_some, some_any, all_each, each_all}
 use Rattle.matching.specs.Stock.{same_pair, has_pair, is_included, meets, none_shared, is_pairing, with_first, all_pairings, most_of, greatest, left_over, fits_left_over}

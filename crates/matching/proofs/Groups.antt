@@ -15,7 +15,7 @@ use lib.Dec.{leb}
 use borrow.Author.Tests.{le-leb}
 use Rattle.counting.specs.Tests.{pick}
 use Rattle.counting.specs.Lists.{In}
-use Rattle.counting.specs.Pairs.{Pair}
+use Rattle.counting.specs.declared.Pair.{Pair}
 use Rattle.skew.specs.Graph.{Graph, nodes, arc_at, nodes_along, is_reachable, has_path, class_at, canonical}
 use Rattle.skew.specs.Paths.{head, WellFormed}
 use Rattle.skew.specs.Barrier.{Barrier}

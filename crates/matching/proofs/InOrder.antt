@@ -12,7 +12,8 @@ use lib.Dec.{ltb}
 use borrow.Author.Tests.{ltb-true, lt-ltb}
 use Rattle.counting.specs.Tests.{up_from, below}
 use Rattle.counting.specs.Lists.{In}
-use Rattle.counting.specs.Pairs.{Pair, pair}
+use Rattle.counting.specs.Pairs.{pair}
+use Rattle.counting.specs.declared.Pair.{Pair}
 use Rattle.counting.proofs.Booleans.{by_test}
 use Rattle.counting.proofs.Range.{up_in, in_up}
 use Rattle.matching.specs.Stock.{is_pairing, pairs_rise}

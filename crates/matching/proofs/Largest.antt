@@ -13,7 +13,7 @@ use native.Mathlib.Omega.{arith}
 use lib.ListN.{length, get_or}
 use Rattle.counting.specs.Tests.{pick, up_from, below}
 use Rattle.counting.specs.Lists.{In}
-use Rattle.counting.specs.Pairs.{Pair}
+use Rattle.counting.specs.declared.Pair.{Pair}
 use Rattle.counting.proofs.Booleans.{by_test, true_false}
 use Rattle.counting.proofs.Range.{in_up}
 use Rattle.skew.specs.Graph.{is_reachable, has_path}

@@ -17,7 +17,8 @@ use lib.ListN.{get_or}
 use borrow.Author.Tests.{ltb-true, ltb-false}
 use Rattle.counting.specs.Tests.{all}
 use Rattle.counting.specs.Lists.{In}
-use Rattle.counting.specs.Pairs.{Pair, no_pair}
+use Rattle.counting.specs.Pairs.{no_pair}
+use Rattle.counting.specs.declared.Pair.{Pair}
 use Rattle.counting.proofs.Membership.{get_d_in}
 use Rattle.counting.proofs.Booleans.{by_test, test_same, true_false}
 use Rattle.matching.specs.Stock.{same_pair, has_pair, pair_before, pairs_rise}

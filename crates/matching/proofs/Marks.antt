@@ -15,7 +15,8 @@ use lib.Dec.{eqb}
 use borrow.Author.Tests.{eqb-true, eq-eqb}
 use Rattle.counting.specs.Tests.{all, any}
 use Rattle.counting.specs.Lists.{In}
-use Rattle.counting.specs.Pairs.{Pair, pair}
+use Rattle.counting.specs.Pairs.{pair}
+use Rattle.counting.specs.declared.Pair.{Pair}
 use Rattle.counting.proofs.Booleans.{and_two, and_both, or_right, or_cases, by_test, true_false, same_or}
 use Rattle.counting.proofs.Membership.{any_some, some_any, all_each}
 use Rattle.matching.specs.Stock.{has_pair, none_shared, touches, is_included, is_pairing, left_over, fits_left_over, pairing_mark, mark_of}

@@ -17,7 +17,8 @@ use lib.ListN.{length, length-append}
 use borrow.Author.Tests.{eqb-true, eq-eqb, ne_eqb}
 use Rattle.counting.specs.Tests.{all, among, below, keep}
 use Rattle.counting.specs.Lists.{In, Distinct}
-use Rattle.counting.specs.Pairs.{Pair, pair, ends}
+use Rattle.counting.specs.Pairs.{pair, ends}
+use Rattle.counting.specs.declared.Pair.{Pair}
 use Rattle.counting.proofs.Booleans.{and_two, and_both, by_test, true_false, same_or}
 use Rattle.counting.proofs.Membership.{in_left, in_right, in_append, all_each, each_all, among_in, in_among}
 use Rattle.counting.proofs.NoRepeats.{distinct_append}

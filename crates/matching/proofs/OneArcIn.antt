@@ -19,10 +19,11 @@ use lib.ListN.{length, get_or}
 use borrow.Author.Tests.{eqb-true, eq-eqb, ne_eqb}
 use Rattle.counting.specs.Tests.{below}
 use Rattle.counting.specs.Lists.{In, Distinct}
-use Rattle.counting.specs.Pairs.{Pair}
+use Rattle.counting.specs.declared.Pair.{Pair}
 use Rattle.counting.proofs.Booleans.{by_test, true_false}
 use Rattle.counting.proofs.Range.{distinct_up}
-use Rattle.skew.specs.Graph.{Arc, no_arc, Graph}
+use Rattle.skew.specs.Graph.{no_arc, Graph}
+use Rattle.skew.specs.declared.Arc.{Arc}
 use Rattle.skew.specs.Paths.{head}
 use Rattle.matching.specs.Matching.{Matching}
 use Rattle.matching.specs.DoubledTable.{camera_arcs, fit_arcs, doubled_table}

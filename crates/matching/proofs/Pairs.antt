@@ -17,7 +17,8 @@ use lib.ListN.{length}
 use borrow.Author.Tests.{eqb-true, eq-eqb, not-true}
 use Rattle.counting.specs.Tests.{any}
 use Rattle.counting.specs.Lists.{In, Distinct}
-use Rattle.counting.specs.Pairs.{Pair, pair, ends}
+use Rattle.counting.specs.Pairs.{pair, ends}
+use Rattle.counting.specs.declared.Pair.{Pair}
 use Rattle.counting.proofs.Booleans.{and_two, or_right, or_cases, by_test, true_false}
 use Rattle.counting.proofs.Membership.{any_some, some_any}
 use Rattle.matching.specs.Stock.{same_pair, has_pair, touches, is_included, meets, none_shared}

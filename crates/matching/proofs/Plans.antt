@@ -20,7 +20,7 @@ use lib.ListN.{length}
 use borrow.Author.Tests.{eqb-true, eq-eqb, ltb-true, lt-ltb, le-ltb}
 use Rattle.counting.specs.Tests.{below}
 use Rattle.counting.specs.Lists.{In}
-use Rattle.counting.specs.Pairs.{Pair}
+use Rattle.counting.specs.declared.Pair.{Pair}
 use Rattle.counting.proofs.Booleans.{and_two, and_both, and_five, or_right, by_test, test_same, true_false}
 use Rattle.counting.proofs.Membership.{all_each, each_all}
 use Rattle.skew.specs.Graph.{has_path}

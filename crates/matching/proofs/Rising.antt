@@ -16,7 +16,7 @@ use lib.Dec.{ltb, eqb}
 use borrow.Author.Tests.{eqb-true, eq-eqb, ltb-true, ltb-false, lt-ltb}
 use Rattle.counting.specs.Tests.{keep}
 use Rattle.counting.specs.Lists.{In}
-use Rattle.counting.specs.Pairs.{Pair}
+use Rattle.counting.specs.declared.Pair.{Pair}
 use Rattle.counting.proofs.Booleans.{and_two, and_three, and_both, or_right, or_cases, or_false_left, or_false_right, by_test}
 use Rattle.counting.proofs.Kept.{in_keep}
 use Rattle.matching.specs.Stock.{pair_before, pairs_rise}

@@ -14,7 +14,7 @@ use lib.ListN.{length}
 use borrow.Author.Tests.{eq-eqb, ne_eqb}
 use Rattle.counting.specs.Tests.{pick}
 use Rattle.counting.specs.Lists.{In, InjectiveOn}
-use Rattle.counting.specs.Pairs.{Pair}
+use Rattle.counting.specs.declared.Pair.{Pair}
 use Rattle.counting.proofs.Booleans.{same_or}
 use Rattle.counting.proofs.Pigeonhole.{distinct_within, injection}
 use Rattle.matching.specs.Matching.{FitsBelow, Fits, Matching, unlit}

@@ -13,7 +13,7 @@ use lib.Dec.{ltb}
 use lib.ListN.{length, get_or, set, length-set, get_or-eq_default}
 use lib.Seq.{get_or-set_same, get_or-set_other}
 use borrow.Author.Tests.{eq-eqb, ne_eqb, ltb-true, ltb-false}
-use Rattle.counting.specs.Pairs.{Pair}
+use Rattle.counting.specs.declared.Pair.{Pair}
 use Rattle.counting.proofs.Booleans.{by_test, same_or}
 use Rattle.counting.proofs.Membership.{get_d_default}
 use Rattle.matching.specs.Matching.{partner}

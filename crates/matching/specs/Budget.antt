@@ -15,7 +15,7 @@
 --   BudgetsAdd                       pairs that a second budget comes to, from those of a first, are such as both at once may come to
 use Rattle.std.specs.Prelude.{◌≡◌, Bool, true, false, ◌&&◌, ◌||◌, not, List, ℕ, zero, suc, ◌+◌, ◌-◌, ◌*◌, ◌/◌, min, ◌≤◌, ◌<◌, ltb, eqb, length}
 use Rattle.counting.specs.Tests.{pick}
-use Rattle.counting.specs.Pairs.{Pair}
+use Rattle.counting.specs.declared.Pair.{Pair}
 use Rattle.matching.specs.Stock.{Stock, is_pairing, greatest, pairs_rise, same_pairs, keeps_lit, is_plan}
 use Rattle.matching.specs.Promise.{WellFormedStock}
 

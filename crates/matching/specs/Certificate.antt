@@ -7,7 +7,7 @@
 --   is_left_or_inner                  that, or inner
 use Rattle.std.specs.Prelude.{◌≡◌, ◌⊎◌, ◌≢◌, Bool, true, false, ◌&&◌, ◌||◌, List, ℕ, ◌<◌, eqb}
 use Rattle.counting.specs.Tests.{below, keep}
-use Rattle.counting.specs.Pairs.{Pair}
+use Rattle.counting.specs.declared.Pair.{Pair}
 use Rattle.matching.specs.Matching.{Fits, is_unlit}
 
 pub record Certificate (n : ℕ) (fs : List Pair) (p : ℕ → ℕ) (D A : ℕ → Bool) (group : ℕ → ℕ) : Type 0 where

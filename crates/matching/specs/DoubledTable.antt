@@ -11,8 +11,9 @@
 --   mark_by h f k, marks_by h f ks     a camera's mark: 3 where it has no fit, else that; the marks of some cameras
 use Rattle.std.specs.Prelude.{◌≡◌, ◌≢◌, Bool, ◌&&◌, not, List, [], ◌∷◌, ◌++◌, ℕ, suc, ◌+◌, ◌*◌, ◌<◌, ltb, eqb, length}
 use Rattle.counting.specs.Tests.{pick, below}
-use Rattle.counting.specs.Pairs.{Pair}
-use Rattle.skew.specs.Graph.{Arc, arc, Graph, is_reachable}
+use Rattle.counting.specs.declared.Pair.{Pair}
+use Rattle.skew.specs.Graph.{arc, Graph, is_reachable}
+use Rattle.skew.specs.declared.Arc.{Arc}
 use Rattle.skew.specs.Paths.{tail, head}
 use Rattle.matching.specs.Matching.{Fits}
 

@@ -16,7 +16,8 @@
 use Rattle.std.specs.Prelude.{◌≡◌, ◌⊎◌, ◌↔◌, Bool, true, false, List, [], ◌∷◌, ℕ, suc, ◌≤◌, ◌<◌, length, get_or}
 use Rattle.counting.specs.Tests.{pick}
 use Rattle.counting.specs.Lists.{In}
-use Rattle.counting.specs.Pairs.{Pair, pair, no_pair}
+use Rattle.counting.specs.Pairs.{pair, no_pair}
+use Rattle.counting.specs.declared.Pair.{Pair}
 use Rattle.matching.specs.Stock.{has_pair, pair_before, pairs_rise}
 use Rattle.matching.specs.Pairs.{Before}
 

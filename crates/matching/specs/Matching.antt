@@ -12,7 +12,8 @@
 use Rattle.std.specs.Prelude.{◌≡◌, ◌⊎◌, ◌≢◌, Bool, List, [], ◌∷◌, ◌++◌, ℕ, ◌<◌, ltb, eqb}
 use Rattle.counting.specs.Tests.{pick, below, keep}
 use Rattle.counting.specs.Lists.{In, Distinct}
-use Rattle.counting.specs.Pairs.{Pair, pair, ends}
+use Rattle.counting.specs.Pairs.{pair, ends}
+use Rattle.counting.specs.declared.Pair.{Pair}
 use Rattle.matching.specs.Pairs.{Rising}
 
 pub record FitsBelow (n : ℕ) (fs : List Pair) : Type 0 where

@@ -4,7 +4,7 @@
 --   Rising xs      smaller camera first, each pair before all that follow
 use Rattle.std.specs.Prelude.{◌≡◌, ◌⊎◌, List, [], ◌∷◌, ℕ, ◌<◌}
 use Rattle.counting.specs.Lists.{In}
-use Rattle.counting.specs.Pairs.{Pair}
+use Rattle.counting.specs.declared.Pair.{Pair}
 
 abbrev pub EndOf : Pair → (camera : ℕ) → Type 0
 EndOf x k = (k ≡ x.first) ⊎ (k ≡ x.second)

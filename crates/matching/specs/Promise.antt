@@ -10,7 +10,8 @@
 --   MarksAre               a camera has mark m exactly if that holds of it
 use Rattle.std.specs.Prelude.{◌≡◌, ◌↔◌, Bool, true, false, ◌&&◌, ◌||◌, List, ℕ, zero, suc, ◌≤◌, ◌<◌, eqb, length}
 use Rattle.counting.specs.Tests.{all, any}
-use Rattle.counting.specs.Pairs.{Pair, pair_named}
+use Rattle.counting.specs.Pairs.{pair_named}
+use Rattle.counting.specs.declared.Pair.{Pair}
 use Rattle.matching.specs.Stock.{Stock, has_pair, none_shared, is_included, is_pairing, greatest, mark_of, pairs_rise, is_plan}
 
 pub record WellFormedStock (s : Stock) : Type 0 where

@@ -6,7 +6,7 @@
 --   Rotates n g is q        each of them is between different cameras below n
 use Rattle.std.specs.Prelude.{◌≡◌, ◌≢◌, List, [], ◌∷◌, ℕ, ◌+◌, ◌/◌, ◌<◌, eqb, length}
 use Rattle.counting.specs.Tests.{pick}
-use Rattle.counting.specs.Pairs.{Pair}
+use Rattle.counting.specs.declared.Pair.{Pair}
 use Rattle.skew.specs.Graph.{Graph, arc_at}
 use Rattle.matching.specs.Matching.{Matching, unlit}
 

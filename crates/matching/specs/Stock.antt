@@ -18,7 +18,7 @@
 --   is_plan s ps                                  a largest pairing that keeps lit cameras lit; the lit pairs if they are largest
 use Rattle.std.specs.Prelude.{Bool, true, false, ◌&&◌, ◌||◌, not, List, [], ◌∷◌, ◌++◌, ℕ, ltb, eqb, length}
 use Rattle.counting.specs.Tests.{pick, all, any, below}
-use Rattle.counting.specs.Pairs.{Pair}
+use Rattle.counting.specs.declared.Pair.{Pair}
 
 -- A STOCK: cameras, fits and lit pairs
 pub record Stock : Type 0 where

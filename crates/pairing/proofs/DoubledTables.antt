@@ -2,124 +2,98 @@
 --   cameras_next, cameras_end     one camera's arcs more are written; those of all are
 --   fits_next, fits_end           one fit's arcs more are written; those of all are
 --   fit_first, fit_second         a fit's cameras
---   row_low, cameras_size         partners are cameras; how many arcs the cameras have
+--   paired_fits, row_low          the fits are of the row's cameras; partners are cameras
+--   cameras_size                  how many arcs the cameras have
 --   doubled, doubled_graph        cameras and then fits are the doubled table; the graph of it
-use mathlib.Core.Path.{◌≡◌, refl, sym, ap, ◌∙◌}
-use mathlib.Core.List.{List, [], ◌∷◌, ◌++◌}
-use Prim.Native.Nat.{ℕ, suc, ◌+◌, ◌*◌, ◌≤◌, ◌<◌}
-use native.Mathlib.Omega.{arith}
-use lib.ListN.{length, get_or, take}
+use Rattle.std.proofs.Common.{◌≡◌, refl, sym, ap, List, [], ℕ, suc, ◌+◌, ◌*◌, ◌≤◌, ◌<◌, length, get_or, take, arith}
 use Rattle.formats.specs.Limits.{arcs_most}
 use Rattle.counting.specs.Tests.{below}
 use Rattle.counting.specs.Lists.{In}
-use Rattle.counting.specs.Pairs.{Pair, pair, no_pair, zip_pairs, pairs_of}
+use Rattle.counting.specs.Pairs.{no_pair}
+use Rattle.counting.specs.declared.Pair.{Pair}
 use Rattle.counting.proofs.Membership.{get_d_in}
-use Rattle.counting.proofs.Zips.{zip_length, zip_at, pairs_stored}
 use Rattle.counting.proofs.Range.{length_up}
-use Rattle.counting.proofs.Loops.{next_below, next_pair}
-use Rattle.skew.specs.Graph.{Arc, arcs_of}
+use Rattle.counting.proofs.Loops.{next_in, next_below}
+use Rattle.skew.specs.declared.Arc.{Arc}
+use Rattle.arcs.specs.Table.{graph}
+use Rattle.matching.specs.Stock.{Stock}
+use Rattle.matching.specs.Matching.{FitsBelow}
 use Rattle.matching.specs.Row.{partner_in}
 use Rattle.matching.specs.DoubledTable.{arcs_of_camera, camera_arcs, arcs_of_fit, fit_arcs, doubled_table}
 use Rattle.matching.proofs.Rising.{rising_ordered}
 use Rattle.matching.proofs.Matchings.{matching_low}
 use Rattle.matching.proofs.Rows.{row_partner}
 use Rattle.matching.proofs.DoubledTable.{camera_arcs_few, camera_arcs_rest, camera_size, fit_arcs_few, table_size}
-use Rattle.pairing.specs.Table.{FitTable, PairedFits, PairsWritten, WritingPairs, as_pairs, arcs_of_cameras, arcs_of_fits, Doubled}
+use Rattle.matching.proofs.Promises.{well_formed_fits}
+use Rattle.pairing.specs.Table.{StockTable, PairedFits, Put, Putting, arcs_of_cameras, arcs_of_fits, Doubled}
 use Rattle.pairing.specs.Row.{row_graph}
-use Rattle.pairing.proofs.WrittenPairs.{written_as, written_long, written_more, writing_next, writing_end}
-
--- ARCS AS PAIRS
-pairs_length : (xs : List Arc) → length (as_pairs xs) ≡ length xs
-pairs_length [] = refl
-pairs_length (x ∷ xs) = ap suc (pairs_length xs)
-
-pairs_append : (xs ys : List Arc) → as_pairs (xs ++ ys) ≡ as_pairs xs ++ as_pairs ys
-pairs_append [] ys = refl
-pairs_append (x ∷ xs) ys = ap (λ (l : List Pair). pair x.tail x.head ∷ l) (pairs_append xs ys)
-
-pairs_back : (xs : List Arc) → arcs_of (as_pairs xs) ≡ xs
-unfolding arcs_of
-pairs_back [] = refl
-pairs_back (x ∷ xs) = ap (λ (l : List Arc). x ∷ l) (pairs_back xs)
+use Rattle.pairing.proofs.PutRuns.{put_as, put_long, put_more, put_read, putting_next, putting_end}
 
 -- CAMERAS
-module _ (row : List ℕ) {tails₀ heads₀ tails heads : List ℕ} {at k : ℕ} (W : WritingPairs (arcs_of_cameras row) 2 (below (length row)) tails₀ heads₀ 0 tails heads at k) where
-  pub cameras_next : {tails' heads' : List ℕ} {at' : ℕ} → k < length row → PairsWritten tails heads at tails' heads' at' (as_pairs (arcs_of_camera (length row) k (get_or row k 0))) →
-      WritingPairs (arcs_of_cameras row) 2 (below (length row)) tails₀ heads₀ 0 tails' heads' at' (k + 1)
+module _ (row : List ℕ) {before after : List Arc} {at k : ℕ} (W : Putting (arcs_of_cameras row) 2 (below (length row)) before 0 after at k) where
+  pub cameras_next : {after' : List Arc} {at' : ℕ} → k < length row → Put after at after' at' (arcs_of_camera (length row) k (get_or row k 0)) →
+      Putting (arcs_of_cameras row) 2 (below (length row)) before 0 after' at' (k + 1)
   unfolding camera_arcs
   cameras_next h P =
-      let xs = arcs_of_camera (length row) k (partner_in row k) in
-      writing_next W (next_below (length row) k h) (pairs_append xs _) (omega (arith, pairs_length xs, camera_arcs_few (length row) k (partner_in row k)))
-      (written_as P (ap (λ (w : ℕ). as_pairs (arcs_of_camera (length row) k w)) (row_partner row k h)))
+      putting_next W (next_below (length row) k h) refl (camera_arcs_few (length row) k (partner_in row k)) (put_as P (ap (arcs_of_camera (length row) k) (row_partner row k h)))
 
-  pub cameras_end : length row ≤ k → PairsWritten tails₀ heads₀ 0 tails heads at (arcs_of_cameras row (below (length row)))
+  pub cameras_end : length row ≤ k → Put before 0 after at (arcs_of_cameras row (below (length row)))
   unfolding camera_arcs
-  cameras_end h = writing_end W (omega (arith, length_up 0 (length row))) refl
+  cameras_end h = putting_end W (omega (arith, length_up 0 (length row))) refl
 
-pub cameras_size : (row : List ℕ) {tails₀ heads₀ tails heads : List ℕ} {at : ℕ} →
-    PairsWritten tails₀ heads₀ 0 tails heads at (arcs_of_cameras row (below (length row))) → at ≤ 2 * length row
-cameras_size row W =
-    let p = partner_in row in
-    let ks = below (length row) in
-    omega (arith, W.count, pairs_length (camera_arcs (length row) p ks []), camera_size (length row) p ks [], length_up 0 (length row))
+pub cameras_size : (row : List ℕ) {before after : List Arc} {at : ℕ} → Put before 0 after at (arcs_of_cameras row (below (length row))) → at ≤ 2 * length row
+cameras_size row P =
+    omega (arith, P.count, camera_size (length row) (partner_in row) (below (length row)) [], length_up 0 (length row))
 
 -- FITS
-module _ {n : ℕ} {firsts seconds : List ℕ} (T : FitTable n firsts seconds) (i : ℕ) (h : i < length firsts) where
-  fit_in : In (pair (get_or firsts i 0) (get_or seconds i 0)) (zip_pairs firsts seconds)
-  fit_in = rw (← zip_at firsts seconds i T.as_long h) (get_d_in (zip_pairs firsts seconds) no_pair i (omega (arith, zip_length firsts seconds T.as_long)))
+module _ {s : Stock} (T : StockTable s) (i : ℕ) (h : i < length s.fits) where
+  fit_in : In (get_or s.fits i no_pair) s.fits
+  fit_in = get_d_in s.fits no_pair i h
 
-  pub fit_second : get_or seconds i 0 < n
-  fit_second = T.fits.named (pair (get_or firsts i 0) (get_or seconds i 0)) fit_in
+  pub fit_second : (get_or s.fits i no_pair).second < s.cameras
+  fit_second = (well_formed_fits s T.well_formed).named (get_or s.fits i no_pair) fit_in
 
-  pub fit_first : get_or firsts i 0 < get_or seconds i 0
-  fit_first = rising_ordered (zip_pairs firsts seconds) T.fits.rising (pair (get_or firsts i 0) (get_or seconds i 0)) fit_in
+  pub fit_first : (get_or s.fits i no_pair).first < (get_or s.fits i no_pair).second
+  fit_first = rising_ordered s.fits (well_formed_fits s T.well_formed).rising (get_or s.fits i no_pair) fit_in
 
-module _ (row : List ℕ) {firsts seconds tails₀ heads₀ tails heads : List ℕ} {start at i : ℕ} (T : FitTable (length row) firsts seconds) (W : WritingPairs (arcs_of_fits row) 2 (zip_pairs firsts seconds) tails₀ heads₀ start tails heads at i) where
-  pub fits_next : {tails' heads' : List ℕ} {at' : ℕ} → i < length firsts →
-      PairsWritten tails heads at tails' heads' at' (as_pairs (arcs_of_fit (get_or firsts i 0) (get_or seconds i 0) (get_or row (get_or firsts i 0) 0))) →
-      WritingPairs (arcs_of_fits row) 2 (zip_pairs firsts seconds) tails₀ heads₀ start tails' heads' at' (i + 1)
+module _ (row : List ℕ) {s : Stock} {before after : List Arc} {start at i : ℕ} (T : StockTable s) (W : Putting (arcs_of_fits row) 2 s.fits before start after at i) where
+  pub fits_next : {after' : List Arc} {at' : ℕ} → length row ≡ s.cameras → i < length s.fits →
+      Put after at after' at' (arcs_of_fit (get_or s.fits i no_pair).first (get_or s.fits i no_pair).second (get_or row (get_or s.fits i no_pair).first 0)) →
+      Putting (arcs_of_fits row) 2 s.fits before start after' at' (i + 1)
   unfolding fit_arcs
-  fits_next h P =
-      let u = get_or firsts i 0 in
-      let v = get_or seconds i 0 in
-      let l : u < length row = omega (arith, fit_first T i h, fit_second T i h) in
-      let xs = arcs_of_fit u v (partner_in row u) in
-      writing_next W (next_pair firsts seconds i T.as_long h) (pairs_append xs _) (omega (arith, pairs_length xs, fit_arcs_few u v (partner_in row u)))
-      (written_as P (ap (λ (w : ℕ). as_pairs (arcs_of_fit u v w)) (row_partner row u l)))
+  fits_next long h P =
+      let x = get_or s.fits i no_pair in
+      let l : x.first < length row = omega (arith, fit_first T i h, fit_second T i h) in
+      putting_next W (next_in s.fits no_pair i h) refl (fit_arcs_few x.first x.second (partner_in row x.first))
+      (put_as P (ap (arcs_of_fit x.first x.second) (row_partner row x.first l)))
 
-  pub fits_end : length firsts ≤ i → PairsWritten tails₀ heads₀ start tails heads at (arcs_of_fits row (zip_pairs firsts seconds))
-  unfolding fit_arcs
-  fits_end h = writing_end W (omega (arith, zip_length firsts seconds T.as_long)) refl
+pub fits_end : (row : List ℕ) {fs : List Pair} {before after : List Arc} {start at i : ℕ} → Putting (arcs_of_fits row) 2 fs before start after at i → length fs ≤ i →
+    Put before start after at (arcs_of_fits row fs)
+unfolding fit_arcs
+fits_end row W h = putting_end W h refl
 
 -- BOTH
-module _ {row firsts seconds : List ℕ} (P : PairedFits row firsts seconds) where
+module _ {row : List ℕ} {s : Stock} (T : StockTable s) (P : PairedFits row s) where
   abbrev n : ℕ
   n = length row
 
+  pub paired_fits : FitsBelow n s.fits
+  paired_fits = rw P.long (well_formed_fits s T.well_formed)
+
   pub row_low : (k : ℕ) → k < n → get_or row k 0 < n
-  row_low k h = rw (← row_partner row k h) (matching_low n (zip_pairs firsts seconds) P.table.fits (partner_in row) P.matching k h)
+  row_low k h = rw (← row_partner row k h) (matching_low n s.fits paired_fits (partner_in row) P.matching k h)
 
-  pub doubled : {tails heads tails₁ heads₁ : List ℕ} {at : ℕ} {tails₂ heads₂ : List ℕ} {next : ℕ} → arcs_most ≤ length tails → arcs_most ≤ length heads →
-      PairsWritten tails heads 0 tails₁ heads₁ at (arcs_of_cameras row (below n)) → PairsWritten tails₁ heads₁ at tails₂ heads₂ next (arcs_of_fits row (zip_pairs firsts seconds)) →
-      Doubled row (zip_pairs firsts seconds) tails heads tails₂ heads₂ next
-  doubled {tails} {heads} {tails₂ = tails₂} {heads₂} {next} ht hh A B =
-      let T = P.table in
+  pub doubled : {before middle after : List Arc} {at next : ℕ} → arcs_most ≤ length before → Put before 0 middle at (arcs_of_cameras row (below n)) →
+      Put middle at after next (arcs_of_fits row s.fits) → Doubled row s.fits before after next
+  doubled {before} {after = after} {next = next} room A B =
       let p = partner_in row in
-      let fs = zip_pairs firsts seconds in
-      let whole : as_pairs (doubled_table n fs p).arcs ≡ arcs_of_cameras row (below n) ++ arcs_of_fits row fs =
-      sym (ap as_pairs (camera_arcs_rest n p (below n) (fit_arcs p fs))) ∙ pairs_append (camera_arcs n p (below n) []) (fit_arcs p fs) in
-      let W : PairsWritten tails heads 0 tails₂ heads₂ next (as_pairs (doubled_table n fs p).arcs) = written_as (written_more A B) whole in
-      let few : next ≤ arcs_most = omega (arith, W.count, pairs_length (doubled_table n fs p).arcs, table_size n fs p, zip_length firsts seconds T.as_long, T.cameras_few, T.fits_few) in
-      let l = written_long W in
-      record { written = W; tails = omega arith; heads = omega arith; few = few }
+      let W : Put before 0 after next (doubled_table n s.fits p).arcs = put_as (put_more A B) (sym (camera_arcs_rest n p (below n) (fit_arcs p s.fits))) in
+      let few : next ≤ arcs_most = omega (arith, W.count, table_size n s.fits p, P.long, T.cameras_few, T.fits_few) in
+      let l = put_long W in
+      record { written = W; room = omega arith; few = few }
 
-pub doubled_graph : {row : List ℕ} {fs : List Pair} {tails₀ heads₀ tails heads : List ℕ} {next : ℕ} → Doubled row fs tails₀ heads₀ tails heads next →
-    row_graph row (take next tails) (take next heads) ≡ doubled_table (length row) fs (partner_in row)
-doubled_graph {row} {fs} {tails₀} {heads₀} {tails} {heads} {next} D =
+pub doubled_graph : {row : List ℕ} {fs : List Pair} {before after : List Arc} {next : ℕ} → Doubled row fs before after next →
+    row_graph row (take next after) ≡ doubled_table (length row) fs (partner_in row)
+doubled_graph {row} {before = before} D =
     let W = D.written in
-    let l = written_long W in
-    let xs = as_pairs (doubled_table (length row) fs (partner_in row)).arcs in
-    let c : next ≡ length xs = omega (arith, W.count) in
-    let arcs : pairs_of next tails heads ≡ xs = rw (W.firsts, W.seconds, c) (pairs_stored xs tails₀ heads₀ (omega (arith, D.tails)) (omega (arith, D.heads))) in
-    ap (λ (l : List Arc). record { pairs = suc (length row); source = 2 * length row; arcs = l })
-    (ap arcs_of arcs ∙ pairs_back (doubled_table (length row) fs (partner_in row)).arcs)
+    ap (λ (l : List Arc). graph (suc (length row)) (2 * length row) l) (put_read W (omega (arith, W.count, D.room, put_long W)))

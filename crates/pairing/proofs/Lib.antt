@@ -1,5 +1,5 @@
 -- Laws that connect the code to the theory.
---   WrittenPairs      pairs of numbers written into two tables
+--   PutRuns           elements put into a table, one run behind the other
 --   DoubledTables     the doubled table, written arc by arc
 --   FollowedPaths     a path followed by rotations of a row
 --   RowPairs          a row read from pairs, and its pairs in order
@@ -7,7 +7,7 @@
 --   OneSearch         the doubled table as a search sees it, and its answers
 --   SearchRuns        from the lit pairs to a plan, one search after the other
 --   ListedPairs       what a caller reads of a pairing that it was handed
-pub mod WrittenPairs
+pub mod PutRuns
 pub mod DoubledTables
 pub mod FollowedPaths
 pub mod RowPairs

@@ -1,95 +1,93 @@
 -- The doubled table of a row as a search sees it, and what each of the search's answers gives.
---   row_front, reached_front        the front of a local table: a row of cameras, the nodes of its doubled table
---   as_long, arc_table              the tables lent are an arc table
---   path_found                      an answer that is a path: it is wanted
+--   arc_table                       the table lent is an arc table
+--   path_few                        an answer that is a path fits in its table, and has an arc
 --   path_rotates, path_stepped      it can be followed, and gives one pair more
 --   none_stepped                    no path: the reachable nodes are told
-use mathlib.Core.Path.{◌≡◌, refl, sym, subst, ◌∙◌}
-use mathlib.Core.Bool.{true, false}
-use mathlib.Core.List.{List}
-use Prim.Native.Nat.{ℕ, suc, ◌+◌, ◌*◌, ◌≤◌, ◌<◌}
-use native.Mathlib.Numerals.{add-one}
-use native.Mathlib.Omega.{arith}
-use lib.ListN.{length, take, drop, replicate, length-replicate}
-use lib.Seq.{length-take-le, length-sets}
-use Rattle.formats.specs.Limits.{cameras_most}
-use Rattle.counting.specs.Pairs.{Pair, zip_pairs}
-use Rattle.counting.proofs.Booleans.{true_false}
-use Rattle.skew.specs.Graph.{Graph, is_reachable, has_path}
-use Rattle.arcs.specs.Table.{ArcTable}
-use Rattle.search.specs.Answer.{PathOrReached}
-use Rattle.search.specs.declared.answer.Sought.{Sought}
-use Rattle.search.specs.declared.answer.Sought.TheVariants.{Path, NoPath}
+use Rattle.std.proofs.Common.{◌≡◌, refl, sym, ap, subst, ◌∙◌, Bool, true, false, None, List, [], ◌∷◌, ℕ, suc, ◌+◌, ◌-◌, ◌*◌, ◌≤◌, ◌<◌, eqb, length, take, drop, arith, add-one}
+use Rattle.std.proofs.lemmas.List.{drop-take}
+use Rattle.std.proofs.Math.Seq.{length-take-le, length-sets}
+use borrow.Author.Tests.{eqb-true}
+use Rattle.counting.specs.declared.Pair.{Pair}
+use Rattle.counting.proofs.Booleans.{and_right, true_false}
+use Rattle.skew.specs.Graph.{Graph, mate, end_of, is_regular, is_wanted, is_reachable, has_path}
+use Rattle.skew.specs.declared.Arc.{Arc}
+use Rattle.skew.proofs.Mates.{mate_other}
+use Rattle.arcs.specs.Table.{graph, ArcTable}
+use Rattle.search.specs.Answer.{PathOrReached, PathWritten}
 use Rattle.search.proofs.Answers.{table_tells, wanted_front}
+use Rattle.matching.specs.Stock.{Stock}
 use Rattle.matching.specs.Rotation.{rotate_along, Rotates, Augments}
 use Rattle.matching.specs.Row.{partner_in}
 use Rattle.matching.specs.Flags.{is_flagged}
 use Rattle.matching.specs.DoubledTable.{doubled_table}
 use Rattle.matching.proofs.DoubledTable.{table_well_formed}
 use Rattle.matching.proofs.Augmentation.{wanted_augments}
-use Rattle.pairing.specs.Table.{PairedFits, Doubled}
-use Rattle.pairing.specs.Row.{row_graph, searched_graph, PathFound}
+use Rattle.pairing.specs.Table.{StockTable, PairedFits, Doubled}
+use Rattle.pairing.specs.Row.{row_graph}
 use Rattle.pairing.specs.Plan.{NoPathLeft, Stepped}
-use Rattle.pairing.proofs.DoubledTables.{doubled_graph}
+use Rattle.pairing.proofs.DoubledTables.{paired_fits, doubled_graph}
 
-pub row_front : (n : ℕ) → n ≤ cameras_most → length (take n (replicate {A = ℕ} cameras_most 0)) ≡ n
-row_front n h = length-take-le n (replicate {A = ℕ} cameras_most 0) (omega (arith, length-replicate {A = ℕ} cameras_most 0))
+-- the source is not its own mate
+some_arc : (g : Graph) (xs : List ℕ) → is_wanted g xs ≡ true → 0 < length xs
+unfolding end_of
+some_arc g [] h =
+    let v = g.source in absurd (mate_other v (sym (eqb-true v (mate v) (and_right (is_regular g []) (eqb v (mate v)) h))))
+some_arc g (x ∷ xs) h = omega arith
 
-pub reached_front : (n : ℕ) → n ≤ cameras_most → length (take (2 * (n + 1)) (replicate {A = ℕ} 256 0)) ≡ 2 * (n + 1)
-reached_front n h = length-take-le (2 * (n + 1)) (replicate {A = ℕ} 256 0) (omega (arith, length-replicate {A = ℕ} 256 0))
+module _ {row : List ℕ} {s : Stock} {before after : List Arc} {r : ℕ} (T : StockTable s) (P : PairedFits row s) (D : Doubled row s.fits before after r) where
+  abbrev fs : List Pair
+  fs = s.fits
 
-pub path_found : {row tails heads : List ℕ} {arcs : ℕ} {path' : List ℕ} {k : ℕ} {a : Sought} (path reached reached' : List ℕ) → 2 * (length row + 1) ≤ length path →
-    a ≡ Path k → PathOrReached (searched_graph row tails heads arcs) a path path' reached reached' → PathFound row tails heads arcs path' k
-path_found {row} {tails} {heads} {arcs} {path'} path reached reached' h e A =
-    let W = (subst (λ (z : Sought). PathOrReached (searched_graph row tails heads arcs) z path path' reached reached') e A).0 in
-    let few = W.few in
-    record { few = rw W.written (simp length-sets (omega arith)); wanted = wanted_front W (omega arith) }
-
-module _ {row firsts seconds tails₀ heads₀ tails heads : List ℕ} {r : ℕ} (P : PairedFits row firsts seconds) (D : Doubled row (zip_pairs firsts seconds) tails₀ heads₀ tails heads r) where
   abbrev n : ℕ
   n = length row
-
-  abbrev fs : List Pair
-  fs = zip_pairs firsts seconds
 
   abbrev p : ℕ → ℕ
   p = partner_in row
 
+  -- as the code counts the pairs of nodes
   abbrev g : Graph
-  g = searched_graph row tails heads r
+  g = graph (n + 1) (2 * n) (take r after)
 
-  told : row_graph row (take r tails) (take r heads) ≡ doubled_table n fs p
+  told : row_graph row (take r after) ≡ doubled_table n fs p
   told = doubled_graph D
 
   same : g ≡ doubled_table n fs p
   same = rw (add-one n) told
 
-  pub as_long : length (take r heads) ≡ length (take r tails)
-  as_long = length-take-le r heads D.heads ∙ sym (length-take-le r tails D.tails)
-
-  pub arc_table : ArcTable (n + 1) (2 * n) (take r tails) (take r heads)
+  pub arc_table : ArcTable g
   arc_table =
       record {
-        well_formed = rw same (table_well_formed n fs P.table.fits p P.matching);
-        as_long = as_long;
-        pairs_few = omega (arith, P.table.cameras_few);
-        arcs_few = omega (arith, length-take-le r tails D.tails, D.few);
+        well_formed = rw same (table_well_formed n fs (paired_fits T P) p P.matching);
+        pairs_few = omega (arith, P.long, T.cameras_few);
+        arcs_few = omega (arith, length-take-le r after D.room, D.few);
       }
 
-  module _ {path : List ℕ} {k : ℕ} (F : PathFound row tails heads r path k) where
-    followed : Rotates n (doubled_table n fs p) (drop 1 (take k path)) p × Augments n fs p (rotate_along (doubled_table n fs p) (drop 1 (take k path)) p)
-    followed = wanted_augments n fs P.table.fits p P.matching (take k path) (rw same at F.wanted)
+  module _ {path path' : List ℕ} {k : ℕ} (long : 2 * (n + 1) ≤ length path) (W : PathWritten g k path path') where
+    wanted : is_wanted g (take k path') ≡ true
+    wanted = let few = W.few in wanted_front W (omega arith)
 
-    pub path_rotates : Rotates n (row_graph row (take r tails) (take r heads)) (drop 1 (take k path)) p
+    pub path_few : (0 < k) × (k ≤ length path')
+    path_few =
+        let few = W.few in
+        (omega (arith, W.count, some_arc g W.arcs W.wanted), rw W.written (simp length-sets (omega arith)))
+
+    abbrev turns : List ℕ
+    turns = take (k - 1) (drop 1 path')
+
+    same_turns : drop 1 (take k path') ≡ turns
+    same_turns = let e : k ≡ 1 + (k - 1) = omega (arith, path_few) in ap (λ (m : ℕ). drop 1 (take m path')) e ∙ drop-take 1 (k - 1) path'
+
+    followed : Rotates n (doubled_table n fs p) turns p × Augments n fs p (rotate_along (doubled_table n fs p) turns p)
+    followed = rw same_turns at (wanted_augments n fs (paired_fits T P) p P.matching (take k path') (rw same at wanted))
+
+    pub path_rotates : Rotates n (row_graph row (take r after)) turns p
     path_rotates = rw told followed.0
 
-    pub path_stepped : {row' reached : List ℕ} → partner_in row' ≡ rotate_along (row_graph row (take r tails) (take r heads)) (drop 1 (take k path)) p →
-        Stepped fs row row' reached true
+    pub path_stepped : {row' : List ℕ} {reached : List Bool} → partner_in row' ≡ rotate_along (row_graph row (take r after)) turns p → Stepped fs row row' reached true
     path_stepped e = record { more = λ t. rw (e, told) followed.1; none = λ t. true_false refl t }
 
-  pub none_stepped : (path path' reached : List ℕ) {reached' : List ℕ} {a : Sought} → a ≡ NoPath → PathOrReached g a path path' reached reached' → Stepped fs row row reached' false
-  none_stepped path path' reached {reached'} e A =
-      let N = subst (λ (z : Sought). PathOrReached g z path path' reached reached') e A in
+  pub none_stepped : {path path' : List ℕ} (reached : List Bool) {reached' : List Bool} → PathOrReached g None path path' reached reached' → Stepped fs row row reached' false
+  none_stepped reached {reached'} N =
       let tells : (v : ℕ) → v < 2 * suc n → is_flagged reached' v ≡ is_reachable g v = λ v l. rw N.2 (table_tells g v (omega arith)) in
       let none : NoPathLeft fs row reached' =
       record {

@@ -1,40 +1,29 @@
 -- The loop of searches: each gives one pair more, but for one that finds no path and tells the reachable nodes.
---   StockTable n firsts seconds lit_firsts lit_seconds      what the questions put to a stock settle
---   NoPathLeft fits row reached                           the row's doubled table has no path, and the table tells its reachable nodes
---   Stepped fits row row' reached r                       one search: r, and one pair more; or none, and the table of nodes
---   Improving fits row₀ row k                             k searches that gave a pair each: every lit camera is lit, and nothing has changed where k is 0
---   Ran most fits row₀ row reached r                      so many searches, and one more that found none; or as many as may be run
---   RanFrom most fits lit n row reached r                 the same from the row of the lit pairs of n cameras
---   BudgetListed most s firsts₀ seconds₀ firsts' seconds' r     the pairs that so many searches come to stand at the front of two tables, with the numbers defined
---   PlanMarked s firsts₀ seconds₀ firsts' seconds' marks r      r pairs of a plan stand there, and the marks are those of the cameras, by cameras and fits alone
-use Rattle.std.specs.Prelude.{◌≡◌, ◌≢◌, Bool, true, false, List, ℕ, suc, ◌+◌, ◌*◌, ◌≤◌, ◌<◌, length}
-use Rattle.formats.specs.Limits.{cameras_most, fits_most}
-use Rattle.counting.specs.Pairs.{Pair}
+--   NoPathLeft fits row reached             the row's doubled table has no path, and the table tells its reachable nodes
+--   Stepped fits row row' reached r         one search: r, and one pair more; or none, and the table of nodes
+--   Improving fits row₀ row k               k searches that gave a pair each: every lit camera is lit, and nothing has changed where k is 0
+--   Ran most s row reached r                from the row of the lit pairs so many searches, and one more that found none; or as many as may be run
+--   BudgetListed most s before after r      the pairs that so many searches come to stand at the front of a table, with the numbers defined
+--   PlanMarked s before after marks r       r pairs of a plan stand there, and the marks are those of the cameras, by cameras and fits alone
+use Rattle.std.specs.Prelude.{◌≡◌, ◌≢◌, Bool, true, false, List, ℕ, suc, ◌+◌, ◌*◌, ◌<◌, length}
+use Rattle.counting.specs.declared.Pair.{Pair}
 use Rattle.skew.specs.Graph.{is_reachable, has_path}
 use Rattle.matching.specs.Stock.{Stock, marks_of, is_plan}
-use Rattle.matching.specs.Promise.{WellFormedStock}
 use Rattle.matching.specs.Budget.{searches_run, found_none, is_budgeted}
 use Rattle.matching.specs.Matching.{Matching, unlit, partner}
 use Rattle.matching.specs.Rotation.{Augments}
 use Rattle.matching.specs.Row.{partner_in}
 use Rattle.matching.specs.Flags.{is_flagged}
 use Rattle.matching.specs.DoubledTable.{doubled_table}
-use Rattle.pairing.specs.Table.{stock_of, PairsWritten}
+use Rattle.pairing.specs.Table.{Put}
 use Rattle.pairing.specs.declared.plan.Ending.{Ending}
 use Rattle.pairing.specs.declared.plan.PairsFound.{PairsFound}
 
-pub record StockTable (n : ℕ) (firsts seconds lit_firsts lit_seconds : List ℕ) : Type 0 where
-  pub as_long : length seconds ≡ length firsts
-  pub lit_as_long : length lit_seconds ≡ length lit_firsts
-  pub cameras_few : n ≤ cameras_most
-  pub fits_few : length firsts ≤ fits_most
-  pub well_formed : WellFormedStock (stock_of n firsts seconds lit_firsts lit_seconds)
-
-pub record NoPathLeft (fits : List Pair) (row reached : List ℕ) : Type 0 where
+pub record NoPathLeft (fits : List Pair) (row : List ℕ) (reached : List Bool) : Type 0 where
   pub no_path : has_path (doubled_table (length row) fits (partner_in row)) ≡ false
   pub tells : (v : ℕ) → v < 2 * suc (length row) → is_flagged reached v ≡ is_reachable (doubled_table (length row) fits (partner_in row)) v
 
-pub record Stepped (fits : List Pair) (row row' reached : List ℕ) (r : Bool) : Type 0 where
+pub record Stepped (fits : List Pair) (row row' : List ℕ) (reached : List Bool) (r : Bool) : Type 0 where
   pub more : r ≡ true → Augments (length row) fits (partner_in row) (partner_in row')
   pub none : r ≡ false → (row' ≡ row) × NoPathLeft fits row' reached
 
@@ -45,27 +34,24 @@ pub record Improving (fits : List Pair) (row₀ row : List ℕ) (k : ℕ) : Type
   pub count : length (unlit (length row) (partner_in row)) + 2 * k ≡ length (unlit (length row₀) (partner_in row₀))
   pub same : k ≡ 0 → row ≡ row₀
 
-pub record Ran (most : ℕ) (fits : List Pair) (row₀ row reached : List ℕ) (r : Ending) : Type 0 where
+pub record Ran (most : ℕ) (s : Stock) (row : List ℕ) (reached : List Bool) (r : Ending) : Type 0 where
+  pub start : List ℕ
+  pub long : length start ≡ s.cameras
+  pub start_lit : partner_in start ≡ partner s.lit
   pub found : ℕ
-  pub improving : Improving fits row₀ row found
-  pub none : r.none ≡ true → (r.searches ≡ found + 1) × (found < most) × NoPathLeft fits row reached
+  pub improving : Improving s.fits start row found
+  pub none : r.none ≡ true → (r.searches ≡ found + 1) × (found < most) × NoPathLeft s.fits row reached
   pub all : r.none ≡ false → (r.searches ≡ found) × (found ≡ most)
 
-pub record RanFrom (most : ℕ) (fits lit : List Pair) (n : ℕ) (row reached : List ℕ) (r : Ending) : Type 0 where
-  pub start : List ℕ
-  pub long : length start ≡ n
-  pub start_lit : partner_in start ≡ partner lit
-  pub ran : Ran most fits start row reached r
-
-pub record BudgetListed (most : ℕ) (s : Stock) (firsts₀ seconds₀ firsts' seconds' : List ℕ) (r : PairsFound) : Type 0 where
+pub record BudgetListed (most : ℕ) (s : Stock) (before after : List Pair) (r : PairsFound) : Type 0 where
   pub pairs : List Pair
   pub budgeted : is_budgeted s most pairs ≡ true
   pub searches : r.ending.searches ≡ searches_run s most
   pub none : r.ending.none ≡ found_none s most
-  pub written : PairsWritten firsts₀ seconds₀ 0 firsts' seconds' r.pairs pairs
+  pub written : Put before 0 after r.pairs pairs
 
-pub record PlanMarked (s : Stock) (firsts₀ seconds₀ firsts' seconds' marks' : List ℕ) (r : ℕ) : Type 0 where
+pub record PlanMarked (s : Stock) (before after : List Pair) (marks' : List ℕ) (r : ℕ) : Type 0 where
   pub pairs : List Pair
   pub plan : is_plan s pairs ≡ true
-  pub written : PairsWritten firsts₀ seconds₀ 0 firsts' seconds' r pairs
+  pub written : Put before 0 after r pairs
   pub marks : marks' ≡ marks_of s.cameras s.fits

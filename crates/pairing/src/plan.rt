@@ -10,24 +10,32 @@
 // mark 00, inner 01, the rest 02, whichever pairs are lit; but a camera without a fit, which is outer, has 03, and the fits tell it.
 // (matching/proofs/Augmentation reachable_left, Certificates left_is_outer, Largest no_path_marks)
 // 5. The code's part: one search in proofs/OneSearch, the loop of searches in proofs/SearchRuns.
+//   NODES_MOST           nodes of a doubled table, at most
 //   Ending, PairsFound   how searches ended; how many pairs there are then, with that
 //   improve              one search
-//   run_searches         one after the other, up to so many
-//   search_from_lit      from the row of the lit pairs
-//   budget, budget_in    the pairs that so many searches come to; the same with the row lent
-//   plan, plan_in        a plan and every camera's mark, with searches enough; the same with the row and the reached nodes lent
+//   run_searches         one after the other, up to so many, from the row of the lit pairs
+//   budget               the pairs that so many searches come to
+//   plan                 a plan and every camera's mark, with searches enough
 ghost use Rattle.std.specs.Prelude.{◌≡◌, ◌+◌, ◌*◌, ◌≤◌, length};
-ghost use Rattle.counting.specs.Pairs.{zip_pairs};
-ghost use Rattle.pairing.specs.Table.{stock_of, PairedFits};
-ghost use Rattle.pairing.specs.Plan.{StockTable, Stepped, Ran, RanFrom, BudgetListed, PlanMarked};
+ghost use Rattle.pairing.specs.Table.{PairedFits};
+ghost use Rattle.pairing.specs.Lent.{stock_of};
+ghost use Rattle.pairing.specs.Plan.{Stepped, Ran, BudgetListed, PlanMarked};
 
 use crate::marks::marks_of;
 use crate::row::{augment, pairs_of, row_of};
+use crate::stock::Stock;
 use crate::table::fill_table;
-use formats::limits::{ARCS_MOST, CAMERAS_MOST, SEARCHES_MOST};
-use search::answer::{Sought, path_or_reached};
+use arcs::graph::Graph;
+use counting::Pair;
+use formats::limits::{ARCS_MOST, CAMERAS_MOST, MATE_PAIRS_MOST, SEARCHES_MOST};
+use search::answer::path_or_reached;
+use skew::NO_ARC;
+
+// Nodes of a doubled table, at most.
+const NODES_MOST: usize = 2 * MATE_PAIRS_MOST;
 
 // How searches ended: how many were run, and whether the last found none.
+// kept: a flag beside a count, since both are told in either case
 #[derive(Clone, Copy)]
 pub struct Ending {
     pub searches: usize,
@@ -42,196 +50,77 @@ pub struct PairsFound {
 }
 
 // One search: one pair more along the path found, or the table of reached nodes.
-fn improve(row: &mut [u8], firsts: &[u8], seconds: &[u8], reached: &mut [u8]) -> bool
-    requires paired_fits { PairedFits row.old firsts.now seconds.now }
+fn improve(row: &mut [u8], stock: &Stock<'_>, reached: &mut [bool]) -> bool
+    requires paired_fits { PairedFits row.old (stock_of stock.now) }
     requires reached_len { length reached.old ≡ 2 * (length row.old + 1) }
-    ensures { Stepped (zip_pairs firsts.now seconds.now) row.old row.new reached.new result }
+    ensures { Stepped stock.now.fits.now row.old row.new reached.new result }
 {
-    let mut tails = [0u8; ARCS_MOST];
-    let mut heads = [0u8; ARCS_MOST];
-    let mut path = [0usize; 256];
+    let mut arcs = [NO_ARC; ARCS_MOST];
+    let mut path = [0; NODES_MOST];
     let n = row.len();
-    let arcs = fill_table(row, firsts, seconds, &mut tails, &mut heads);
-    let answer = path_or_reached(
-        n + 1,
-        2 * n,
-        &tails[..arcs],
-        &heads[..arcs],
-        reached,
-        &mut path,
-    );
-    match answer {
-        Sought::Path(count) => {
-            augment(row, &tails[..arcs], &heads[..arcs], &path[..count]);
+    let count = fill_table(row, stock, &mut arcs);
+    let graph = Graph {
+        pairs: n + 1,
+        source: 2 * n,
+        arcs: &arcs[..count],
+    };
+    match path_or_reached(&graph, reached, &mut path) {
+        Some(end) => {
+            augment(row, graph.arcs, &path[1..end]);
             true
         }
-        Sought::NoPath => false,
+        None => false,
     }
 }
 
-// One search after the other: they end with one that found none, or when `most` have been run.
-fn run_searches(
-    most: usize,
-    row: &mut [u8],
-    firsts: &[u8],
-    seconds: &[u8],
-    reached: &mut [u8],
-) -> Ending
-    requires paired_fits { PairedFits row.old firsts.now seconds.now }
+// From the row of the lit pairs one search after the other: they end with one that found none, or when `most` have been run.
+fn run_searches(most: usize, stock: &Stock<'_>, row: &mut [u8], reached: &mut [bool]) -> Ending
+    requires row_len { length row.old ≡ stock.now.cameras }
     requires reached_len { length reached.old ≡ 2 * (length row.old + 1) }
-    ensures { Ran most (zip_pairs firsts.now seconds.now) row.old row.new reached.new result }
+    ensures { Ran most (stock_of stock.now) row.new reached.new result }
 {
-    let mut searches = 0;
-    // invariant: specs/Plan Improving; falls: searches left
-    while searches < most {
-        searches += 1;
-        if !improve(row, firsts, seconds, reached) {
+    row_of(row, stock);
+    // invariant: specs/Plan Improving
+    for found in 0..most {
+        if !improve(row, stock, reached) {
             return Ending {
-                searches,
+                searches: found + 1,
                 none: true,
             };
         }
     }
     Ending {
-        searches,
+        searches: most,
         none: false,
     }
 }
 
-// From the row of the lit pairs to the row that so many searches come to, and the nodes that the last one reached.
-fn search_from_lit(
-    most: usize,
-    row: &mut [u8],
-    firsts: &[u8],
-    seconds: &[u8],
-    lit_firsts: &[u8],
-    lit_seconds: &[u8],
-    reached: &mut [u8],
-) -> Ending
-    requires stock_table { StockTable (length row.old) firsts.now seconds.now lit_firsts.now lit_seconds.now }
-    requires reached_len { length reached.old ≡ 2 * (length row.old + 1) }
-    ensures { RanFrom most (zip_pairs firsts.now seconds.now) (zip_pairs lit_firsts.now lit_seconds.now) (length row.old) row.new reached.new result }
+// The pairs that so many searches come to at the front of `pairs`: how many, and how the searches ended.
+pub fn budget(most: usize, stock: &Stock<'_>, pairs: &mut [Pair]) -> PairsFound
+    requires { stock.now.cameras ≤ length pairs.old }
+    ensures { BudgetListed most (stock_of stock.now) pairs.old pairs.new result }
 {
-    row_of(row, lit_firsts, lit_seconds);
-    run_searches(most, row, firsts, seconds, reached)
-}
-
-// What so many searches come to, with the row lent.
-fn budget_in(
-    most: usize,
-    row: &mut [u8],
-    firsts: &[u8],
-    seconds: &[u8],
-    lit_firsts: &[u8],
-    lit_seconds: &[u8],
-    pair_firsts: &mut [u8],
-    pair_seconds: &mut [u8],
-) -> PairsFound
-    requires stock_table { StockTable (length row.old) firsts.now seconds.now lit_firsts.now lit_seconds.now }
-    requires row_in_bounds { (length row.old ≤ length pair_firsts.old) × (length row.old ≤ length pair_seconds.old) }
-    ensures { BudgetListed most (stock_of (length row.old) firsts.now seconds.now lit_firsts.now lit_seconds.now) pair_firsts.old pair_seconds.old pair_firsts.new pair_seconds.new result }
-{
-    let mut reached = [0u8; 256];
-    let nodes = 2 * (row.len() + 1);
-    let ending = search_from_lit(
-        most,
-        row,
-        firsts,
-        seconds,
-        lit_firsts,
-        lit_seconds,
-        &mut reached[..nodes],
-    );
-    let pairs = pairs_of(row, pair_firsts, pair_seconds);
+    let mut row = [0; CAMERAS_MOST];
+    let mut reached = [false; NODES_MOST];
+    let row = &mut row[..stock.cameras];
+    let reached = &mut reached[..2 * (stock.cameras + 1)];
+    let ending = run_searches(most, stock, row, reached);
+    let pairs = pairs_of(row, pairs);
     PairsFound { pairs, ending }
 }
 
-// The pairs that so many searches come to at the front of `pair_firsts` and `pair_seconds`: how many, and how the searches ended.
-pub fn budget(
-    most: usize,
-    cameras: usize,
-    firsts: &[u8],
-    seconds: &[u8],
-    lit_firsts: &[u8],
-    lit_seconds: &[u8],
-    pair_firsts: &mut [u8],
-    pair_seconds: &mut [u8],
-) -> PairsFound
-    requires stock_table { StockTable cameras firsts.now seconds.now lit_firsts.now lit_seconds.now }
-    requires cameras_in_bounds { (cameras ≤ length pair_firsts.old) × (cameras ≤ length pair_seconds.old) }
-    ensures { BudgetListed most (stock_of cameras firsts.now seconds.now lit_firsts.now lit_seconds.now) pair_firsts.old pair_seconds.old pair_firsts.new pair_seconds.new result }
+// The pairs of a plan at the front of `pairs`, how many, and every camera's mark.
+// kept beside budget: they share the searches, and each tells what the other does not, the marks or how the searches ended
+pub fn plan(stock: &Stock<'_>, pairs: &mut [Pair], marks: &mut [u8]) -> usize
+    requires marks_len { length marks.old ≡ stock.now.cameras }
+    requires pairs_in_bounds { stock.now.cameras ≤ length pairs.old }
+    ensures { PlanMarked (stock_of stock.now) pairs.old pairs.new marks.new result }
 {
-    let mut row = [0u8; CAMERAS_MOST];
-    budget_in(
-        most,
-        &mut row[..cameras],
-        firsts,
-        seconds,
-        lit_firsts,
-        lit_seconds,
-        pair_firsts,
-        pair_seconds,
-    )
-}
-
-// A plan and every camera's mark, with the row and the table of reached nodes lent.
-fn plan_in(
-    row: &mut [u8],
-    firsts: &[u8],
-    seconds: &[u8],
-    lit_firsts: &[u8],
-    lit_seconds: &[u8],
-    reached: &mut [u8],
-    pair_firsts: &mut [u8],
-    pair_seconds: &mut [u8],
-    marks: &mut [u8],
-) -> usize
-    requires stock_table { StockTable (length row.old) firsts.now seconds.now lit_firsts.now lit_seconds.now }
-    requires reached_len { length reached.old ≡ 2 * (length row.old + 1) }
-    requires row_in_bounds { (length row.old ≤ length pair_firsts.old) × (length row.old ≤ length pair_seconds.old) }
-    requires marks_len { length marks.old ≡ length row.old }
-    ensures { PlanMarked (stock_of (length row.old) firsts.now seconds.now lit_firsts.now lit_seconds.now) pair_firsts.old pair_seconds.old pair_firsts.new pair_seconds.new marks.new result }
-{
-    search_from_lit(
-        SEARCHES_MOST,
-        row,
-        firsts,
-        seconds,
-        lit_firsts,
-        lit_seconds,
-        reached,
-    );
-    marks_of(firsts, seconds, reached, marks);
-    pairs_of(row, pair_firsts, pair_seconds)
-}
-
-// The pairs of a plan at the front of `pair_firsts` and `pair_seconds`, how many, and every camera's mark.
-pub fn plan(
-    firsts: &[u8],
-    seconds: &[u8],
-    lit_firsts: &[u8],
-    lit_seconds: &[u8],
-    pair_firsts: &mut [u8],
-    pair_seconds: &mut [u8],
-    marks: &mut [u8],
-) -> usize
-    requires stock_table { StockTable (length marks.old) firsts.now seconds.now lit_firsts.now lit_seconds.now }
-    requires marks_in_bounds { (length marks.old ≤ length pair_firsts.old) × (length marks.old ≤ length pair_seconds.old) }
-    ensures { PlanMarked (stock_of (length marks.old) firsts.now seconds.now lit_firsts.now lit_seconds.now) pair_firsts.old pair_seconds.old pair_firsts.new pair_seconds.new marks.new result }
-{
-    let mut row = [0u8; CAMERAS_MOST];
-    let mut reached = [0u8; 256];
-    let cameras = marks.len();
-    let nodes = 2 * (cameras + 1);
-    plan_in(
-        &mut row[..cameras],
-        firsts,
-        seconds,
-        lit_firsts,
-        lit_seconds,
-        &mut reached[..nodes],
-        pair_firsts,
-        pair_seconds,
-        marks,
-    )
+    let mut row = [0; CAMERAS_MOST];
+    let mut reached = [false; NODES_MOST];
+    let row = &mut row[..stock.cameras];
+    let reached = &mut reached[..2 * (stock.cameras + 1)];
+    run_searches(SEARCHES_MOST, stock, row, reached);
+    marks_of(stock, reached, marks);
+    pairs_of(row, pairs)
 }

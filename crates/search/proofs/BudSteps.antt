@@ -1,7 +1,7 @@
 -- The bud step on the tables.
 --   MapsAsked, maps_asked      what the loops over births and bases ask, and the place of the absorbing base's mate
---   bud_stepped                births and bases mapped after an ascent, and that mate's birth stored: a bud step
-use mathlib.Core.Path.{◌≡◌, refl, sym, ◌∙◌}
+--   bud_stepped, bud_stepped_old    births and bases mapped after an ascent: a bud step, with that mate's birth stored where it had none
+use mathlib.Core.Path.{◌≡◌, refl, sym, subst, ◌∙◌}
 use mathlib.Core.Logic.{◌⊎◌, inl, inr, ◌≢◌, ⊎_elim}
 use mathlib.Core.Bool.{Bool, true, false}
 use mathlib.Core.List.{List}
@@ -10,7 +10,7 @@ use native.Mathlib.Numerals.{add-one}
 use native.Mathlib.Omega.{arith}
 use lib.Dec.{ltb, eqb}
 use lib.ListN.{length, get_or, set, length-set, get_or-eq_default}
-use lib.Seq.{get_or-set_same, get_or-set_other}
+use lib.Seq.{get_or-set_same, get_or-set_other, set-get_or}
 use borrow.Author.Tests.{eqb-true, eq-eqb, ne_eqb, ltb-true, lt-ltb, ltb-false}
 use Rattle.counting.specs.Tests.{pick}
 use Rattle.counting.specs.Loops.{Mapped}
@@ -23,12 +23,12 @@ use Rattle.skew.proofs.Mates.{mate_below}
 use Rattle.skew.proofs.BudStep.{bud_step_keeps}
 use Rattle.skew.proofs.Measure.{bud_step_less}
 use Rattle.skew.proofs.Settled.{bud_step_settled, bud_step_settles}
-use Rattle.search.specs.Tables.{Arcs, graph, Labels, labels}
+use Rattle.search.specs.Tables.{Labels, labels}
 use Rattle.search.specs.State.{state_in, StateHeld, SearchHeld, absorbed_in, vias_of}
 use Rattle.search.specs.Steps.{birth_after, births_after, base_after, bases_after, Bridging, Ascended, born_before, BudStepped}
 use Rattle.search.proofs.States.{not_reached, reached_is, unreached_is, base_at}
 
-pub record MapsAsked (L : Labels) (marks : List ℕ) (d : ℕ) : Type 0 where
+pub record MapsAsked (L : Labels) (marks : List Bool) (d : ℕ) : Type 0 where
   pub pairs : length L.births ≡ 2 * length L.bases
   pub marks_long : length L.births ≡ length marks
   pub base_marked : (j : ℕ) → j < length L.bases → get_or L.bases j 0 < length marks
@@ -37,18 +37,18 @@ pub record MapsAsked (L : Labels) (marks : List ℕ) (d : ℕ) : Type 0 where
   pub mate_in_births : mate d < length L.births
 
 -- a birth mapped twice
-twice : (birth mark k : ℕ) → 0 < k → birth_after (birth_after birth mark k) 1 k ≡ birth_after birth 1 k
+twice : (birth : ℕ) (mark : Bool) (k : ℕ) → 0 < k → birth_after (birth_after birth mark k) true k ≡ birth_after birth true k
 twice birth mark k l =
     by_test (eqb birth 0)
-    (λ t. by_test (eqb mark 1) (λ u. rw (t, u, ne_eqb k 0 (λ q. omega arith))) (λ u. rw (t, u, t)))
+    (λ t. by_test mark (λ u. rw (t, u, ne_eqb k 0 (λ q. omega arith))) (λ u. rw (t, u, t)))
     (λ t. rw (t, t))
 
-module _ {T : Arcs} {L : Labels} {k i : ℕ} {vias marks : List ℕ} {d : ℕ} (B : Bridging T L k i) (A : Ascended T L k i vias marks d) where
-  abbrev S : SearchHeld T L k
-  S = B.joining.leaving.held
+module _ {g : Graph} {L : Labels} {k i : ℕ} {N : Labels} {marks : List Bool} {d : ℕ} (B : Bridging g L k i) (A : Ascended g L k i N marks d) where
+  abbrev vias : List ℕ
+  vias = N.vias
 
-  abbrev g : Graph
-  g = graph T
+  abbrev S : SearchHeld g L k
+  S = B.joining.leaving.held
 
   abbrev st : State
   st = state_in L k
@@ -62,8 +62,8 @@ module _ {T : Arcs} {L : Labels} {k i : ℕ} {vias marks : List ℕ} {d : ℕ} (
   mate_node : mate d < nodes g
   mate_node = mate_below d (nodes g) (omega arith) A.is_node
 
-  pub maps_asked : MapsAsked L marks d
-  maps_asked =
+  asked : MapsAsked L marks d
+  asked =
       record {
         pairs = omega (arith, H.births_long, H.bases_long);
         marks_long = omega (arith, H.births_long, A.marks_long);
@@ -73,15 +73,26 @@ module _ {T : Arcs} {L : Labels} {k i : ℕ} {vias marks : List ℕ} {d : ℕ} (
         mate_in_births = omega (arith, mate_node, H.births_long);
       }
 
+  pub maps_asked : MapsAsked N marks d
+  maps_asked =
+      record {
+        pairs = rw (A.births_same, A.bases_same) asked.pairs;
+        marks_long = rw A.births_same asked.marks_long;
+        base_marked = rw A.bases_same asked.base_marked;
+        small = asked.small;
+        mate_small = asked.mate_small;
+        mate_in_births = rw A.births_same asked.mate_in_births;
+      }
+
   -- what is no node has no mark
-  no_mark : (u : ℕ) → nodes g ≤ u → get_or marks (st.base u) 0 ≡ 0
+  no_mark : (u : ℕ) → nodes g ≤ u → C (st.base u) ≡ false
   no_mark u l =
       let e : st.base u ≡ u - u % 2 = get_or-eq_default L.bases (u - u % 2) (omega (arith, H.bases_long)) in
-      rw e (get_or-eq_default marks 0 (omega (arith, A.marks_long)))
+      rw e (get_or-eq_default marks false (omega (arith, A.marks_long)))
 
   -- births and bases mapped, and the birth of the absorbing base's mate stored
   module _ {births₁ bases' : List ℕ} {x : ℕ} (MB : Mapped (births_after L.bases marks k) L.births births₁ (length L.births))
-      (MS : Mapped (bases_after marks d) L.bases bases' (length L.bases)) (x_is : x ≡ birth_after (get_or births₁ (mate d) 0) 1 k) where
+      (MS : Mapped (bases_after marks d) L.bases bases' (length L.bases)) (x_is : x ≡ birth_after (get_or births₁ (mate d) 0) true k) where
     abbrev births' : List ℕ
     births' = set births₁ (mate d) x
 
@@ -89,19 +100,19 @@ module _ {T : Arcs} {L : Labels} {k i : ℕ} {vias marks : List ℕ} {d : ℕ} (
     new = state_in (labels births' vias bases') (k + 1)
 
     -- the mark by which a birth is mapped
-    abbrev mark : ℕ → ℕ
-    mark u = pick (eqb u (mate d)) 1 (get_or marks (st.base u) 0)
+    abbrev mark : ℕ → Bool
+    mark u = pick (eqb u (mate d)) true (C (st.base u))
 
-    mark_in : (u : ℕ) → C (st.base u) ≡ true → eqb (mark u) 1 ≡ true
+    mark_in : (u : ℕ) → C (st.base u) ≡ true → mark u ≡ true
     mark_in u h = by_test (eqb u (mate d)) (λ t. rw t) (λ t. rw t h)
 
-    mark_mate : eqb (mark (mate d)) 1 ≡ true
+    mark_mate : mark (mate d) ≡ true
     mark_mate = rw (eq-eqb (mate d) (mate d) refl)
 
-    mark_back : (u : ℕ) → eqb (mark u) 1 ≡ true → (C (st.base u) ≡ true) ⊎ (u ≡ mate d)
+    mark_back : (u : ℕ) → mark u ≡ true → (C (st.base u) ≡ true) ⊎ (u ≡ mate d)
     mark_back u h = by_test (eqb u (mate d)) (λ t. inr (eqb-true u (mate d) t)) (λ t. inl (rw t at h))
 
-    first_birth : (u : ℕ) → u < nodes g → get_or births₁ u 0 ≡ birth_after (get_or L.births u 0) (get_or marks (st.base u) 0) k
+    first_birth : (u : ℕ) → u < nodes g → get_or births₁ u 0 ≡ birth_after (get_or L.births u 0) (C (st.base u)) k
     first_birth u l = MB.done u (omega (arith, H.births_long)) ∙ rw (base_at H u l)
 
     birth_is : (u : ℕ) → get_or births' u 0 ≡ birth_after (get_or L.births u 0) (mark u) k
@@ -112,7 +123,7 @@ module _ {T : Arcs} {L : Labels} {k i : ℕ} {vias marks : List ℕ} {d : ℕ} (
         (λ (q : u ≡ mate d).
         rw (q, eq-eqb (mate d) (mate d) refl)
         (get_or-set_same births₁ (mate d) x 0 (omega (arith, MB.long, H.births_long, mate_node)) ∙ x_is ∙
-        rw (first_birth (mate d) mate_node) (twice (get_or L.births (mate d) 0) (get_or marks (st.base (mate d)) 0) k H.clock_late)))
+        rw (first_birth (mate d) mate_node) (twice (get_or L.births (mate d) 0) (C (st.base (mate d))) k H.clock_late)))
         (λ n. rw (ne_eqb u (mate d) n) (get_or-set_other births₁ (mate d) u x 0 n ∙ first_birth u (ltb-true u (nodes g) t))) (same_or u (mate d)))
         (λ t.
         let l = ltb-false u (nodes g) t in
@@ -124,22 +135,22 @@ module _ {T : Arcs} {L : Labels} {k i : ℕ} {vias marks : List ℕ} {d : ℕ} (
     birth_kept : (u : ℕ) → st.reached u ≡ true → get_or births' u 0 ≡ get_or L.births u 0
     birth_kept u l = birth_is u ∙ rw (ne_eqb (get_or L.births u 0) 0 (λ q. omega (arith, reached_is (get_or L.births u 0) l)))
 
-    birth_new : (u : ℕ) → st.reached u ≡ false → eqb (mark u) 1 ≡ true → get_or births' u 0 ≡ k
+    birth_new : (u : ℕ) → st.reached u ≡ false → mark u ≡ true → get_or births' u 0 ≡ k
     birth_new u f t = birth_is u ∙ rw (unreached_is (get_or L.births u 0) f, t)
 
-    birth_none : (u : ℕ) → st.reached u ≡ false → eqb (mark u) 1 ≡ false → get_or births' u 0 ≡ 0
+    birth_none : (u : ℕ) → st.reached u ≡ false → mark u ≡ false → get_or births' u 0 ≡ 0
     birth_none u f t = birth_is u ∙ rw (unreached_is (get_or L.births u 0) f, t)
 
     reached_still : (u : ℕ) → st.reached u ≡ true → new.reached u ≡ true
     reached_still u l = rw (birth_kept u l) l
 
-    reached_marked : (u : ℕ) → eqb (mark u) 1 ≡ true → new.reached u ≡ true
+    reached_marked : (u : ℕ) → mark u ≡ true → new.reached u ≡ true
     reached_marked u t = by_test (st.reached u) (reached_still u) (λ f. rw (birth_new u f t) (lt-ltb 0 k H.clock_late))
 
-    new_marked : (u : ℕ) → st.reached u ≡ false → new.reached u ≡ true → eqb (mark u) 1 ≡ true
-    new_marked u f l = by_test (eqb (mark u) 1) (λ t. t) (λ t. true_false l (not_reached (get_or births' u 0) (birth_none u f t)))
+    new_marked : (u : ℕ) → st.reached u ≡ false → new.reached u ≡ true → mark u ≡ true
+    new_marked u f l = by_test (mark u) (λ t. t) (λ t. true_false l (not_reached (get_or births' u 0) (birth_none u f t)))
 
-    base_is : (u : ℕ) → new.base u ≡ base_after (st.base u) (get_or marks (st.base u) 0) d
+    base_is : (u : ℕ) → new.base u ≡ base_after (st.base u) (C (st.base u)) d
     base_is u =
         by_test (ltb u (nodes g))
         (λ t.
@@ -173,10 +184,10 @@ module _ {T : Arcs} {L : Labels} {k i : ℕ} {vias marks : List ℕ} {d : ℕ} (
         (λ l. rw (birth_kept u l, ne_eqb (get_or L.births u 0) k (λ q. omega (arith, H.invariant.before_clock u l))))
         (λ f.
         rw f
-        (by_test (eqb (mark u) 1) (λ t. rw (birth_new u f t, eq-eqb k k refl))
+        (by_test (mark u) (λ t. rw (birth_new u f t, eq-eqb k k refl))
         (λ t. rw (birth_none u f t, ne_eqb 0 k (λ q. omega (arith, H.clock_late))))))
 
-    stepped : BudStepped T L k i (labels births' vias bases')
+    stepped : BudStepped g L k i (labels births' vias bases')
     stepped =
         let wf = S.table.well_formed in
         record {
@@ -204,7 +215,19 @@ module _ {T : Arcs} {L : Labels} {k i : ℕ} {vias marks : List ℕ} {d : ℕ} (
           born = born;
         }
 
-  pub bud_stepped : {births₁ bases' : List ℕ} {m x : ℕ} → Mapped (births_after L.bases marks k) L.births births₁ (length L.births) →
-      Mapped (bases_after marks d) L.bases bases' (length L.bases) → m ≡ mate d → x ≡ birth_after (get_or births₁ m 0) 1 k →
-      BudStepped T L k i (labels (set births₁ m x) vias bases')
-  bud_stepped MB MS e f = rw e (stepped MB MS (rw e at f))
+  -- the mate's birth is stored where it has none
+  module _ {births₁ bases' : List ℕ} {m : ℕ} (MB : Mapped (births_after N.bases marks k) N.births births₁ (length N.births))
+      (MS : Mapped (bases_after marks d) N.bases bases' (length N.bases)) (e : m ≡ mate d) where
+    births : Mapped (births_after L.bases marks k) L.births births₁ (length L.births)
+    births = rw (A.births_same, A.bases_same) at MB
+
+    bases : Mapped (bases_after marks d) L.bases bases' (length L.bases)
+    bases = rw A.bases_same at MS
+
+    pub bud_stepped : get_or births₁ m 0 ≡ 0 → BudStepped g L k i (labels (set births₁ m k) vias bases')
+    bud_stepped z = rw e (stepped births bases (rw (rw e at z)))
+
+    pub bud_stepped_old : get_or births₁ m 0 ≢ 0 → BudStepped g L k i (labels births₁ vias bases')
+    bud_stepped_old n =
+        subst (λ (l : List ℕ). BudStepped g L k i (labels l vias bases')) (set-get_or births₁ (mate d) 0)
+        (stepped births bases (rw (ne_eqb (get_or births₁ (mate d) 0) 0 (rw e at n))))

@@ -1,19 +1,19 @@
 -- A look at one arc of a reached node: whether it is settled, and what the tables hold after the step that it asks for.
 --   settled_tells, unsettled_tells          what `is_settled` answers: the arc is settled, or asks for a bud
---   LookReads heads births queue k i y z    y is the head of arc i and z is y's mate; where `look` reads
+--   LookReads g T i y z                     y is the head of arc i and z is y's mate; where `look` reads
 --   look_reads, births_clear                these bounds; the marks are clear
 --   looked_old                              the head was reached already
 --   new_room, looked_new                    the head is new: there is room in the queue, and it was reached
 --   looked_settled                          the head's mate is reached and the arc is settled
 --   bridging, bud_queue, looked_bud         or it asks for a bud: what the step and the queue are given, and the arc was settled
-use mathlib.Core.Path.{◌≡◌, sym, ap, ◌∙◌}
+use mathlib.Core.Path.{◌≡◌, sym, ap, subst, ◌∙◌}
 use mathlib.Core.Logic.{inl, inr, ◌≢◌, ⊎_elim}
-use mathlib.Core.Bool.{true, false}
+use mathlib.Core.Bool.{Bool, true, false}
 use mathlib.Core.List.{List}
 use Prim.Native.Nat.{ℕ, ◌+◌, ◌*◌, ◌/◌, ◌≤◌, ◌<◌}
 use native.Mathlib.Omega.{arith}
 use lib.Dec.{eqb}
-use lib.ListN.{length, get_or, set}
+use lib.ListN.{length, get_or}
 use borrow.Author.Tests.{eqb-true, eqb-false, lt-ltb, le-ltb}
 use Rattle.counting.proofs.Booleans.{or_cases, or_false_left, or_false_right, by_test, true_false}
 use Rattle.skew.specs.Graph.{Graph, mate}
@@ -23,24 +23,20 @@ use Rattle.skew.specs.Steps.{Settled, SettledArc, Touched}
 use Rattle.skew.specs.Ascent.{Unsettled}
 use Rattle.skew.proofs.Mates.{mate_below}
 use Rattle.skew.proofs.Settled.{tree_step_reached, tree_step_settled}
-use Rattle.arcs.proofs.Tables.{head_is}
-use Rattle.search.specs.Tables.{Arcs, graph, Labels}
-use Rattle.search.specs.State.{state_in, StateHeld, Clear}
-use Rattle.search.specs.Steps.{Leaving, NewHead, Joining, Bridging, head_reached, BudStepped}
-use Rattle.search.specs.Queue.{Queued, queued_below, Enqueued, is_settled, Looking, ArcLooked}
+use Rattle.search.specs.Tables.{Labels, Queue, Tables, tables}
+use Rattle.search.specs.State.{state_in, state_of, StateHeld, Clear}
+use Rattle.search.specs.Steps.{Leaving, NewHead, Joining, Bridging, head_reached, TreeStepped, BudStepped}
+use Rattle.search.specs.Queue.{Queued, queued_below, pushed, Enqueued, is_settled, Looking, ArcLooked}
 use Rattle.search.proofs.States.{is_reached, not_reached, reached_is_node, ArcBounds, arc_bounds, tail_base, head_base}
 use Rattle.search.proofs.TreeSteps.{tree_stepped}
 use Rattle.search.proofs.Queues.{queued_same, enqueued_same, enqueued_none, enqueued_add, queue_room}
 
 -- IS THE ARC SETTLED?
-module _ {T : Arcs} {L : Labels} {k i : ℕ} (J : Joining T L k i) where
-  abbrev g : Graph
-  g = graph T
-
+module _ {g : Graph} {L : Labels} {k i : ℕ} (J : Joining g L k i) where
   abbrev st : State
   st = state_in L k
 
-  abbrev A : Leaving T L k i
+  abbrev A : Leaving g L k i
   A = J.leaving
 
   abbrev I : Invariant g st
@@ -48,19 +44,16 @@ module _ {T : Arcs} {L : Labels} {k i : ℕ} (J : Joining T L k i) where
 
   -- the bases of tail and head, and their arcs
   abbrev p : ℕ
-  p = get_or L.bases (get_or T.tails i 0 / 2) 0
+  p = get_or L.bases (tail g i / 2) 0
 
   abbrev q : ℕ
-  q = get_or L.bases (get_or T.heads i 0 / 2) 0
+  q = get_or L.bases (head g i / 2) 0
 
   abbrev a : ℕ
   a = get_or L.vias p 0
 
   abbrev b : ℕ
   b = get_or L.vias q 0
-
-  head_at : head g i ≡ get_or T.heads i 0
-  head_at = head_is A.held.table i A.is_arc
 
   base_p : st.base (tail g i) ≡ p
   base_p = tail_base A.held A.is_arc
@@ -71,9 +64,9 @@ module _ {T : Arcs} {L : Labels} {k i : ℕ} (J : Joining T L k i) where
   base_z : st.base (mate (head g i)) ≡ q
   base_z = I.base_mate (head g i) ∙ base_q
 
-  pub settled_tells : is_settled T.tails T.heads L i ≡ true → Settled g st i
+  pub settled_tells : is_settled g L i ≡ true → Settled g st i
   settled_tells e =
-      by_test (eqb p q) (λ t. inl (base_p ∙ eqb-true p q t ∙ sym base_q, rw head_at (rw t at e)))
+      by_test (eqb p q) (λ t. inl (base_p ∙ eqb-true p q t ∙ sym base_q, rw t at e))
       (λ t.
       ⊎_elim (λ h. inr (inl (sym (eqb-true b i h) ∙ ap st.via (sym base_q)))) (λ h. inr (inr (sym (eqb-true a (mate i) h) ∙ ap st.via (sym base_p))))
       (or_cases (eqb b i) (eqb a (mate i)) (rw t at e)))
@@ -95,50 +88,50 @@ module _ {T : Arcs} {L : Labels} {k i : ℕ} (J : Joining T L k i) where
         mate_new = λ z. absurd (ne (sym base_p ∙ z ∙ base_z));
       }
 
-  pub unsettled_tells : is_settled T.tails T.heads L i ≡ false → Bridging T L k i
+  pub unsettled_tells : is_settled g L i ≡ false → Bridging g L k i
   unsettled_tells e =
       record {
         joining = J;
         unsettled =
-            by_test (eqb p q) (λ t. inside (eqb-true p q t) (rw head_at (rw t at e)))
+            by_test (eqb p q) (λ t. inside (eqb-true p q t) (rw t at e))
             (λ t.
             between (eqb-false p q t) (eqb-false b i (or_false_left (eqb b i) (eqb a (mate i)) (rw t at e)))
             (eqb-false a (mate i) (or_false_right (eqb b i) (eqb a (mate i)) (rw t at e))));
       }
 
 -- THE LOOK
-pub record LookReads (heads births queue : List ℕ) (k i y z : ℕ) : Type 0 where
-  pub head : y ≡ get_or heads i 0
+pub record LookReads (g : Graph) (T : Tables) (i y z : ℕ) : Type 0 where
+  pub is_head : y ≡ head g i
   pub mate_of : z ≡ mate y
-  pub head_in_births : y < length births
-  pub mate_in_births : z < length births
-  pub queue_few : length queue ≤ 256
-  pub clock_few : k ≤ 1000
+  pub head_in_births : y < length T.labels.births
+  pub mate_in_births : z < length T.labels.births
+  pub queue_few : length T.queue.nodes ≤ 256
+  pub clock_few : T.clock ≤ 1000
 
-module _ {T : Arcs} {L : Labels} {k i : ℕ} {marks queue : List ℕ} {count : ℕ} (A : Looking T L k i marks queue count) where
-  H : StateHeld (graph T) L k
+module _ {g : Graph} {T : Tables} {i : ℕ} (A : Looking g T i) where
+  H : StateHeld g T.labels T.clock
   H = A.leaving.held.state
 
-  B : ArcBounds T L i
+  B : ArcBounds g T.labels i
   B = arc_bounds A.leaving.held A.leaving.is_arc
 
-  pub births_clear : Clear (length L.births) marks
+  pub births_clear : Clear false (length T.labels.births) T.marks
   births_clear = rw H.births_long A.clear
 
-  pub look_reads : {y z : ℕ} → y ≡ get_or T.heads i 0 → z ≡ mate y → LookReads T.heads L.births queue k i y z
+  pub look_reads : {y z : ℕ} → y ≡ head g i → z ≡ mate y → LookReads g T i y z
   look_reads {y} ey ez =
-      let l : y < 2 * T.pairs = rw ey B.head_low in
+      let l : y < 2 * g.pairs = rw ey B.head_low in
       record {
-        head = ey;
+        is_head = ey;
         mate_of = ez;
         head_in_births = omega (arith, B.births_long);
-        mate_in_births = rw ez (omega (arith, B.births_long, mate_below y (2 * T.pairs) (omega arith) l));
+        mate_in_births = rw ez (omega (arith, B.births_long, mate_below y (2 * g.pairs) (omega arith) l));
         queue_few = omega (arith, A.queue_long, B.pairs_few);
         clock_few = omega (arith, H.clock_bound);
       }
 
-  unchanged : Touched (graph T) (state_in L k) i → ((state_in L k).reached (mate (head (graph T) i)) ≡ true → SettledArc (graph T) (state_in L k) i) →
-      ArcLooked T L k i queue count L k marks queue count
+  unchanged : Touched g (state_of T) i → ((state_of T).reached (mate (head g i)) ≡ true → SettledArc g (state_of T) i) →
+      ArcLooked g T i T
   unchanged t s =
       record {
         state = H;
@@ -149,89 +142,91 @@ module _ {T : Arcs} {L : Labels} {k i : ℕ} {marks queue : List ℕ} {count : �
         enqueued = enqueued_none A.queued;
       }
 
-  module _ {y z : ℕ} (R : LookReads T.heads L.births queue k i y z) where
-    in_queue : y < length queue
+  module _ {y z : ℕ} (R : LookReads g T i y z) where
+    in_queue : y < length T.queue.nodes
     in_queue = omega (arith, A.queue_long, R.head_in_births, B.births_long)
 
-    head_y : head (graph T) i ≡ y
-    head_y = head_is A.leaving.held.table i A.leaving.is_arc ∙ sym R.head
+    head_y : head g i ≡ y
+    head_y = sym R.is_head
 
-    mate_z : mate (head (graph T) i) ≡ z
+    mate_z : mate (head g i) ≡ z
     mate_z = ap mate head_y ∙ sym R.mate_of
 
     -- the head's mate is new
-    module _ (nz : get_or L.births z 0 ≡ 0) where
-      mate_new : (state_in L k).reached (mate (head (graph T) i)) ≡ false
-      mate_new = rw mate_z (not_reached (get_or L.births z 0) nz)
+    module _ (nz : get_or T.labels.births z 0 ≡ 0) where
+      mate_new : (state_of T).reached (mate (head g i)) ≡ false
+      mate_new = rw mate_z (not_reached (get_or T.labels.births z 0) nz)
 
-      pub looked_old : get_or L.births y 0 ≢ 0 → ArcLooked T L k i queue count L k marks queue count
-      looked_old ry = unchanged (inl (rw head_y (is_reached (get_or L.births y 0) ry))) (λ t. true_false t mate_new)
+      pub looked_old : get_or T.labels.births y 0 ≢ 0 → ArcLooked g T i T
+      looked_old ry = unchanged (inl (rw head_y (is_reached (get_or T.labels.births y 0) ry))) (λ t. true_false t mate_new)
 
-      module _ (ny : get_or L.births y 0 ≡ 0) where
-        y_new : (state_in L k).reached y ≡ false
-        y_new = not_reached (get_or L.births y 0) ny
+      module _ (ny : get_or T.labels.births y 0 ≡ 0) where
+        y_new : (state_of T).reached y ≡ false
+        y_new = not_reached (get_or T.labels.births y 0) ny
 
-        new_head : NewHead T L k i
+        new_head : NewHead g T.labels T.clock i
         new_head = record { leaving = A.leaving; head_new = rw head_y y_new; mate_new = mate_new }
 
-        pub new_room : count < length queue
+        pub new_room : T.queue.count < length T.queue.nodes
         new_room = queue_room A.queued y_new in_queue
 
-        pub looked_new : {L' : Labels} → L' ≡ head_reached T.heads L k i →
-            ArcLooked T L k i queue count L' (k + 1) marks (set queue count y) (count + 1)
-        looked_new e =
-            let N = tree_stepped new_head in
+        stepped : TreeStepped g T.labels T.clock i (head_reached T.labels T.clock i y)
+        stepped = subst (λ (w : ℕ). TreeStepped g T.labels T.clock i (head_reached T.labels T.clock i w)) head_y (tree_stepped new_head)
+
+        pub looked_new : {L' : Labels} {q' : Queue} → L' ≡ head_reached T.labels T.clock i y → q' ≡ pushed T.queue y →
+            ArcLooked g T i (tables L' T.marks q' (T.clock + 1))
+        looked_new e eq =
             let d = A.leaving.held.table.well_formed.symmetric in
-            let new = state_in (head_reached T.heads L k i) (k + 1) in
-            rw e
+            let new = state_in (head_reached T.labels T.clock i y) (T.clock + 1) in
+            rw (e, eq)
             (record {
-              state = N.state;
+              state = stepped.state;
               clear = A.clear;
               later =
                   record {
-                    reached_still = tree_step_reached (graph T) d (state_in L k) H.invariant i new new_head.head_new mate_new N.step;
-                    settled_still = λ j l. tree_step_settled (graph T) d (state_in L k) H.invariant i new new_head.head_new mate_new N.step j;
+                    reached_still = tree_step_reached g d (state_of T) H.invariant i new new_head.head_new mate_new stepped.step;
+                    settled_still = λ j l. tree_step_settled g d (state_of T) H.invariant i new new_head.head_new mate_new stepped.step j;
                   };
-              touched = inl N.step.reached_head;
+              touched = inl stepped.step.reached_head;
               settled = λ t. true_false t mate_new;
               enqueued =
-                  enqueued_add (enqueued_none A.queued) y_new in_queue (rw head_y at N.step.reached_head)
-                  (λ u ne. N.step.reached_other u (λ e. ne (e ∙ head_y)));
+                  enqueued_add (enqueued_none A.queued) y_new in_queue (rw head_y at stepped.step.reached_head)
+                  (λ u ne. stepped.step.reached_other u (λ e. ne (e ∙ head_y)));
             })
 
     -- the head's mate is reached
-    module _ (rz : get_or L.births z 0 ≢ 0) where
-      joining : Joining T L k i
-      joining = record { leaving = A.leaving; mate_reached = rw mate_z (is_reached (get_or L.births z 0) rz) }
+    module _ (rz : get_or T.labels.births z 0 ≢ 0) where
+      joining : Joining g T.labels T.clock i
+      joining = record { leaving = A.leaving; mate_reached = rw mate_z (is_reached (get_or T.labels.births z 0) rz) }
 
-      pub looked_settled : is_settled T.tails T.heads L i ≡ true → ArcLooked T L k i queue count L k marks queue count
+      pub looked_settled : is_settled g T.labels i ≡ true → ArcLooked g T i T
       looked_settled e =
           unchanged (inr joining.mate_reached)
           (λ t. record { tail_reached = A.leaving.tail_reached; mate_reached = t; settled = settled_tells joining e })
 
-      pub bridging : is_settled T.tails T.heads L i ≡ false → Bridging T L k i
+      pub bridging : is_settled g T.labels i ≡ false → Bridging g T.labels T.clock i
       bridging = unsettled_tells joining
 
   -- a bud was formed
-  module _ {L' : Labels} (N : BudStepped T L k i L') where
+  module _ {L' : Labels} (N : BudStepped g T.labels T.clock i L') where
     -- reached before the step, as the queue tells it
-    before : (u : ℕ) → queued_below L'.births k 0 u ≡ (state_in L k).reached u
+    before : (u : ℕ) → queued_below L'.births T.clock 0 u ≡ (state_of T).reached u
     before u = rw (le-ltb u 0 (omega arith)) (N.born u)
 
-    pub bud_queue : (length queue ≡ length L'.births) × Queued (queued_below L'.births k 0) queue count
+    pub bud_queue : (length T.queue.nodes ≡ length L'.births) × Queued (queued_below L'.births T.clock 0) T.queue
     bud_queue = (omega (arith, A.queue_long, N.state.births_long), queued_same before A.queued)
 
-    after : (u : ℕ) → (state_in L' (k + 1)).reached u ≡ queued_below L'.births k (length L'.births) u
+    after : (u : ℕ) → (state_in L' (T.clock + 1)).reached u ≡ queued_below L'.births T.clock (length L'.births) u
     after u =
-        by_test (eqb (get_or L'.births u 0) k)
+        by_test (eqb (get_or L'.births u 0) T.clock)
         (λ t.
-        let r : (state_in L' (k + 1)).reached u ≡ true = rw (eqb-true (get_or L'.births u 0) k t) (lt-ltb 0 k H.clock_late) in
+        let r : (state_in L' (T.clock + 1)).reached u ≡ true = rw (eqb-true (get_or L'.births u 0) T.clock t) (lt-ltb 0 T.clock H.clock_late) in
         rw (t, r) (sym (lt-ltb u (length L'.births) (omega (arith, N.state.births_long, reached_is_node N.state u r)))))
         (λ t. rw t)
 
-    pub looked_bud : {marks' queue' : List ℕ} {count' : ℕ} → Clear (length L.births) marks' →
-        Enqueued (queued_below L'.births k (length L'.births)) queue count queue' count' →
-        ArcLooked T L k i queue count L' (k + 1) marks' queue' count'
+    pub looked_bud : {marks' : List Bool} {q' : Queue} → Clear false (length T.labels.births) marks' →
+        Enqueued (queued_below L'.births T.clock (length L'.births)) T.queue q' →
+        ArcLooked g T i (tables L' marks' q' (T.clock + 1))
     looked_bud C E =
         record {
           state = N.state;

@@ -1,6 +1,6 @@
 -- The tree step on the tables.
 --   tree_stepped      the head's birth, label and base stored: a tree step
-use mathlib.Core.Path.{◌≡◌, subst, ◌∙◌}
+use mathlib.Core.Path.{◌≡◌, ◌∙◌}
 use mathlib.Core.Logic.{◌≢◌, ⊎_elim}
 use Prim.Native.Nat.{ℕ, ◌+◌, ◌/◌, ◌<◌}
 use native.Mathlib.Numerals.{add-one}
@@ -9,37 +9,36 @@ use lib.ListN.{get_or, set, length-set}
 use lib.Seq.{get_or-set_same, get_or-set_other}
 use borrow.Author.Tests.{lt-ltb}
 use Rattle.counting.proofs.Booleans.{same_or}
-use Rattle.skew.specs.Graph.{mate, nodes}
+use Rattle.skew.specs.Graph.{Graph, mate, nodes}
 use Rattle.skew.specs.Paths.{head}
 use Rattle.skew.specs.Steps.{TreeStep}
 use Rattle.skew.proofs.Mates.{mate_half, half_pair}
 use Rattle.skew.proofs.TreeStep.{tree_step_keeps}
 use Rattle.skew.proofs.Measure.{tree_step_less}
-use Rattle.arcs.proofs.Tables.{head_is}
-use Rattle.search.specs.Tables.{Arcs, graph, Labels, labels}
+use Rattle.search.specs.Tables.{Labels, labels}
 use Rattle.search.specs.State.{state_in, StateHeld, SearchHeld}
 use Rattle.search.specs.Steps.{NewHead, head_reached, TreeStepped}
 
-module _ {T : Arcs} {L : Labels} {k i : ℕ} (N : NewHead T L k i) where
-  abbrev S : SearchHeld T L k
+module _ {g : Graph} {L : Labels} {k i : ℕ} (N : NewHead g L k i) where
+  abbrev S : SearchHeld g L k
   S = N.leaving.held
 
-  abbrev H : StateHeld (graph T) L k
+  abbrev H : StateHeld g L k
   H = S.state
 
   abbrev w : ℕ
-  w = head (graph T) i
+  w = head g i
 
   abbrev after : (head : ℕ) → Labels
   after w = labels (set L.births w k) (set L.vias w i) (set L.bases (w / 2) w)
 
-  head_low : w < nodes (graph T)
+  head_low : w < nodes g
   head_low = S.table.well_formed.head_node i N.leaving.is_arc
 
   other : (u : ℕ) → (u ≢ w) × (u ≢ mate w) → u / 2 ≢ w / 2
   other u n q = ⊎_elim n.0 n.1 (half_pair u w q)
 
-  step : TreeStep (graph T) (state_in L k) i (state_in (after w) (k + 1))
+  step : TreeStep g (state_in L k) i (state_in (after w) (k + 1))
   step =
       let b : get_or (set L.births w k) w 0 ≡ k = get_or-set_same L.births w k 0 (omega (arith, H.births_long, head_low)) in
       let s : (x : ℕ) → get_or (set L.bases (w / 2) w) (w / 2) x ≡ w = λ x. get_or-set_same L.bases (w / 2) w x (omega (arith, H.bases_long, head_low)) in
@@ -56,7 +55,7 @@ module _ {T : Arcs} {L : Labels} {k i : ℕ} (N : NewHead T L k i) where
         clock_next = add-one k;
       }
 
-  state : StateHeld (graph T) (after w) (k + 1)
+  state : StateHeld g (after w) (k + 1)
   state =
       record {
         invariant =
@@ -72,11 +71,11 @@ module _ {T : Arcs} {L : Labels} {k i : ℕ} (N : NewHead T L k i) where
             omega (
               arith,
               H.clock_bound,
-              tree_step_less (graph T) S.table.well_formed (state_in L k) H.invariant i N.leaving.is_arc N.leaving.tail_reached N.head_new
+              tree_step_less g S.table.well_formed (state_in L k) H.invariant i N.leaving.is_arc N.leaving.tail_reached N.head_new
                   N.mate_new (state_in (after w) (k + 1)) step,
             );
       }
 
-  pub tree_stepped : TreeStepped T L k i (head_reached T.heads L k i)
+  pub tree_stepped : TreeStepped g L k i (head_reached L k i (head g i))
   tree_stepped =
-      subst (λ (w : ℕ). TreeStepped T L k i (after w)) (head_is S.table i N.leaving.is_arc) (record { state = state; step = step })
+      record { state = state; step = step }

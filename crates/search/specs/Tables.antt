@@ -1,24 +1,8 @@
--- What a search is lent, as values.
---   Arcs, arcs n s ts hs        an arc table, with the number of mate pairs and the source that make a graph of it
---   graph T                     that graph
+-- What a search keeps in its tables, as values.
 --   Labels, labels bs vs ss     the birth of each node, 0 where it is not reached; the arc of each node's label; the base of each mate pair
---   SomeGraph, EveryGraph ts hs P     P holds of some graph with these arcs; of every one. What is lent tells the arcs alone
---   SomeTails, EveryTails ts P        the same of graphs whose arcs have these tails
-use Rattle.std.specs.Prelude.{List, ℕ}
-use Rattle.skew.specs.Graph.{Graph}
-use Rattle.arcs.specs.Table.{table_graph}
-
-pub record Arcs : Type 0 where
-  pub pairs : ℕ
-  pub source : ℕ
-  pub tails : List ℕ
-  pub heads : List ℕ
-
-abbrev pub arcs : (pairs source : ℕ) → (tails heads : List ℕ) → Arcs
-arcs n s ts hs = record { pairs = n; source = s; tails = ts; heads = hs }
-
-abbrev pub graph : Arcs → Graph
-graph T = table_graph T.pairs T.source T.tails T.heads
+--   Queue, queue vs m           a table, and the number of nodes that stand in its first places
+--   Tables, tables L ms q k     labels, the marks of a bud step, the reached nodes in order, and the clock
+use Rattle.std.specs.Prelude.{Bool, List, ℕ}
 
 pub record Labels : Type 0 where
   pub births : List ℕ
@@ -28,14 +12,18 @@ pub record Labels : Type 0 where
 abbrev pub labels : (births vias bases : List ℕ) → Labels
 labels bs vs ss = record { births = bs; vias = vs; bases = ss }
 
-abbrev pub SomeGraph : (tails heads : List ℕ) → (Arcs → Type 0) → Type 0
-SomeGraph ts hs P = (n : ℕ) × (s : ℕ) × P (arcs n s ts hs)
+pub record Queue : Type 0 where
+  pub nodes : List ℕ
+  pub count : ℕ
 
-abbrev pub EveryGraph : (tails heads : List ℕ) → (Arcs → Type 0) → Type 0
-EveryGraph ts hs P = (n s : ℕ) → P (arcs n s ts hs)
+abbrev pub queue : (nodes : List ℕ) (count : ℕ) → Queue
+queue vs m = record { nodes = vs; count = m }
 
-abbrev pub SomeTails : (tails : List ℕ) → (Arcs → Type 0) → Type 0
-SomeTails ts P = (hs : List ℕ) × SomeGraph ts hs P
+pub record Tables : Type 0 where
+  pub labels : Labels
+  pub marks : List Bool
+  pub queue : Queue
+  pub clock : ℕ
 
-abbrev pub EveryTails : (tails : List ℕ) → (Arcs → Type 0) → Type 0
-EveryTails ts P = (hs : List ℕ) → EveryGraph ts hs P
+abbrev pub tables : Labels → (marks : List Bool) → Queue → (clock : ℕ) → Tables
+tables L ms q k = record { labels = L; marks = ms; queue = q; clock = k }

@@ -4,85 +4,79 @@
 //   fill_classes  the class of each node, in node order
 ghost use Rattle.std.specs.Prelude.{◌≡◌, ◌+◌, ◌<◌, length};
 ghost use Rattle.skew.specs.Graph.{canonical};
-ghost use Rattle.search.specs.Tables.{Arcs, graph, labels, SomeTails, EveryTails};
-ghost use Rattle.search.specs.State.{Clear};
+ghost use Rattle.arcs.specs.Lent.{graph_of};
+ghost use Rattle.search.specs.Lent.{labels_of};
 ghost use Rattle.search.specs.ClassTable.{Exhausted, InBud, RootFound, Classing};
 
-use arcs::node::{mate_of, narrow, wide};
+use crate::steps::Labels;
+use arcs::graph::Graph;
+use arcs::node::mate_of;
 
-fn root_of(tails: &[u8], birth: &[usize], via: &[usize], base: &[usize], v: usize) -> usize
-    requires { SomeTails tails.now (λ (T : Arcs). InBud T (labels birth.now via.now base.now) v) }
-    ensures { EveryTails tails.now (λ (T : Arcs). InBud T (labels birth.now via.now base.now) v → RootFound T (labels birth.now via.now base.now) v result) }
+fn root_of(graph: &Graph<'_>, labels: &Labels<'_>, v: usize) -> usize
+    requires { InBud (graph_of graph.now) (labels_of labels.now) v }
+    ensures { RootFound (graph_of graph.now) (labels_of labels.now) v result }
 {
-    let mut b = base[v / 2];
+    let mut b = labels.base[v / 2];
+    // kept: a node that goes up from base to base
     // invariant: proofs/Roots RootAscent; falls: the birth number of b
     loop {
-        let e = via[b];
-        let x = wide(tails[e]);
+        let e = labels.via[b];
+        let x = usize::from(graph.arcs[e].tail);
         let outside = mate_of(x);
-        if birth[outside] == 0 {
+        if labels.birth[outside] == 0 {
             return b;
         }
-        b = base[x / 2];
+        b = labels.base[x / 2];
     }
 }
 
 // The class of v is written. The next number to give.
+// kept: 0 for a part that has no number yet, since a number goes into the class table as it is, where parts begin at 3
 fn class_at(
-    tails: &[u8],
-    birth: &[usize],
-    via: &[usize],
-    base: &[usize],
-    number: &mut [usize],
+    graph: &Graph<'_>,
+    labels: &Labels<'_>,
+    number: &mut [u8],
     class: &mut [u8],
     v: usize,
-    next: usize,
-) -> usize
-    requires some_tails { SomeTails tails.now (λ (T : Arcs). Classing T (labels birth.now via.now base.now) v number.old class.old next) }
-    requires v_in_bounds { v < length birth.now }
-    ensures { EveryTails tails.now (λ (T : Arcs). Classing T (labels birth.now via.now base.now) v number.old class.old next → Classing T (labels birth.now via.now base.now) (v + 1) number.new class.new result) }
+    next: u8,
+) -> u8
+    requires classing { Classing (graph_of graph.now) (labels_of labels.now) v number.old class.old next }
+    requires v_in_bounds { v < length labels.now.birth.now }
+    ensures { Classing (graph_of graph.now) (labels_of labels.now) (v + 1) number.new class.new result }
 {
     let m = mate_of(v);
-    if birth[v] == 0 {
-        if birth[m] == 0 {
+    if labels.birth[v] == 0 {
+        if labels.birth[m] == 0 {
             class[v] = 0;
             return next;
         }
         class[v] = 2;
         return next;
     }
-    if birth[m] == 0 {
+    if labels.birth[m] == 0 {
         class[v] = 1;
         return next;
     }
-    let t = root_of(tails, birth, via, base, v);
+    let t = root_of(graph, labels, v);
     let c = number[t];
     if c == 0 {
         number[t] = next;
-        class[v] = narrow(next);
+        class[v] = next;
         return next + 1;
     }
-    class[v] = narrow(c);
+    class[v] = c;
     next
 }
 
-pub fn fill_classes(
-    tails: &[u8],
-    birth: &[usize],
-    via: &[usize],
-    base: &[usize],
-    number: &mut [usize],
-    class: &mut [u8],
-)
-    requires some_tails { SomeTails tails.now (λ (T : Arcs). Exhausted T (labels birth.now via.now base.now)) }
-    requires clear { Clear (length birth.now) number.old × (length class.old ≡ length birth.now) }
-    ensures { EveryTails tails.now (λ (T : Arcs). Exhausted T (labels birth.now via.now base.now) → class.new ≡ canonical (graph T)) }
+pub fn fill_classes(graph: &Graph<'_>, labels: &Labels<'_>, class: &mut [u8])
+    requires exhausted { Exhausted (graph_of graph.now) (labels_of labels.now) }
+    requires class_len { length class.old ≡ length labels.now.birth.now }
+    ensures { class.new ≡ canonical (graph_of graph.now) }
 {
-    let mut next: usize = 3;
-    let mut v: usize = 0;
-    // invariant: specs/ClassTable Classing; falls: nodes left
-    while v < birth.len() {
-        next = class_at(tails, birth, via, base, number, class, v, next);
-        v += 1;
+    let mut number = [0u8; 256];
+    let mut next: u8 = 3;
+    // invariant: specs/ClassTable Classing
+    for v in 0..labels.birth.len() {
+        next = class_at(graph, labels, &mut number, class, v, next);
     }
 }

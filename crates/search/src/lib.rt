@@ -1,6 +1,7 @@
-// Skew-symmetric graphs searched. The caller lends the graph as two tables of bytes, the arcs' tails and heads.
+// Skew-symmetric graphs searched. The caller lends the graph.
 //   steps      tree step and bud step
-//   queue      the order of the steps: a queue of reached nodes
+//   queue      the queue of reached nodes
+//   state      the order of the steps: node by node, as the queue has them
 //   restore    the path found, restored through its buds
 //   classes    the canonical barrier's class table
 //   answer     a path, or the reachable nodes, or the barrier
@@ -10,4 +11,5 @@ pub mod answer;
 mod classes;
 mod queue;
 mod restore;
+mod state;
 mod steps;

@@ -1,60 +1,57 @@
 // A found path restored through every bud that it crosses (document 01, "Buds"; document 000, section 2.2).
 //   mate_reverse    a part of the path in the opposite order, each arc's mate for the arc
 //   restore         the path that the labels give; it calls itself on inner buds, the birth number falling
-ghost use Rattle.std.specs.Prelude.{ℕ, ◌≤◌, ◌<◌, length, get_or};
+ghost use Rattle.std.specs.Prelude.{◌≡◌, ℕ, ◌<◌, length, get_or};
 ghost use Rattle.formats.specs.Limits.{arcs_most};
-ghost use Rattle.search.specs.Tables.{Arcs, SomeGraph};
-ghost use Rattle.search.specs.Restore.{Restorable, Restored, MateReversed};
+ghost use Rattle.counting.specs.Lists.{reverse_map};
+ghost use Rattle.skew.specs.Graph.{mate};
+ghost use Rattle.arcs.specs.Lent.{graph_of};
+ghost use Rattle.search.specs.Lent.{labels_of};
+ghost use Rattle.search.specs.Restore.{Restorable, Restored};
 
-use arcs::node::{mate_of, wide};
+use crate::steps::Labels;
+use arcs::graph::Graph;
+use arcs::node::mate_of;
 
-fn mate_reverse(arcs: &mut [usize], from: usize, to: usize)
-    requires from_le_to { (from ≤ to) × (to ≤ length arcs.old) }
-    requires by_index { (k : ℕ) → from ≤ k → k < to → get_or arcs.old k 0 < arcs_most }
-    ensures { MateReversed arcs.old arcs.new from to }
+fn mate_reverse(part: &mut [usize])
+    requires { (k : ℕ) → k < length part.old → get_or part.old k 0 < arcs_most }
+    ensures { part.new ≡ reverse_map mate part.old }
 {
-    let mut a = from;
-    let mut b = to;
-    // invariant: proofs/Reverses Reversing; falls: b - a
-    while a < b {
-        b -= 1;
-        let x = mate_of(arcs[a]);
-        let y = mate_of(arcs[b]);
-        arcs[a] = y;
-        arcs[b] = x;
-        a += 1;
+    // invariant: the arcs gone through are their mates
+    for arc in part.iter_mut() {
+        *arc = mate_of(*arc);
     }
+    part.reverse();
 }
 
 // Writes the path from stop to v, from place `at` on: to the tail of v's label, over the arc, and then, unless the arc's head is v, along the mates of
 // the path from v's mate to the head's mate. The place after it. No instruction reads the birth numbers: they are what falls from call to call.
 pub fn restore(
-    tails: &[u8],
-    heads: &[u8],
-    birth: &[usize],
-    via: &[usize],
+    graph: &Graph<'_>,
+    labels: &Labels<'_>,
     stop: usize,
     v: usize,
-    arcs: &mut [usize],
+    path: &mut [usize],
     at: usize,
 ) -> usize
-    requires { SomeGraph tails.now heads.now (λ (T : Arcs). Restorable T birth.now via.now stop v at (length arcs.old)) }
-    ensures { Restored tails.now heads.now birth.now via.now stop v at arcs.old arcs.new result }
+    requires { Restorable (graph_of graph.now) (labels_of labels.now) stop v at (length path.old) }
+    ensures { Restored (graph_of graph.now) (labels_of labels.now) stop v at path.old path.new result }
 {
     if v == stop {
         return at;
     }
-    let e = via[v];
-    let x = wide(tails[e]);
-    let y = wide(heads[e]);
-    let a = restore(tails, heads, birth, via, stop, x, arcs, at);
-    arcs[a] = e;
+    let e = labels.via[v];
+    let arc = graph.arcs[e];
+    let x = usize::from(arc.tail);
+    let y = usize::from(arc.head);
+    let a = restore(graph, labels, stop, x, path, at);
+    path[a] = e;
     if y == v {
         return a + 1;
     }
     let m = mate_of(v);
     let w = mate_of(y);
-    let b = restore(tails, heads, birth, via, m, w, arcs, a + 1);
-    mate_reverse(arcs, a + 1, b);
+    let b = restore(graph, labels, m, w, path, a + 1);
+    mate_reverse(&mut path[a + 1..b]);
     b
 }

@@ -19,7 +19,8 @@ use lib.Dec.{ltb, leb, eqb}
 use lib.ListN.{length, get_or}
 use borrow.Author.Tests.{eqb-true, eqb-false, eq-eqb, ne_eqb, ltb-true, ltb-false, le-leb, leb-false}
 use Rattle.counting.specs.Tests.{all, up_from, below}
-use Rattle.skew.specs.Graph.{Arc, no_arc, Graph, mate, nodes, arc_at, is_reachable, class_at, largest_of, mate_class, mates_agree, entries_into, isXM, arc_fits, is_barrier, class_of, classes_from, canonical}
+use Rattle.skew.specs.Graph.{no_arc, Graph, mate, nodes, arc_at, is_reachable, class_at, largest_of, mate_class, mates_agree, entries_into, isXM, arc_fits, is_barrier, class_of, classes_from, canonical}
+use Rattle.skew.specs.declared.Arc.{Arc}
 use Rattle.skew.specs.Paths.{tail, head, WellFormed}
 use Rattle.skew.specs.Barrier.{classes_fit, is_entry, Barrier, EntryArc, NodeClass, in_X, in_A, in_A', in_M}
 use Rattle.counting.proofs.Booleans.{and_two, and_five, and_both, or_right, or_cases, or_false_left, or_false_right, by_test, true_false, same_or}

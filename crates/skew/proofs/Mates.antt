@@ -15,7 +15,8 @@ use lib.Dec.{eqb}
 use lib.ListN.{length, get_or}
 use borrow.Author.Tests.{eqb-true, eqb-false}
 use Rattle.counting.specs.Tests.{pick}
-use Rattle.skew.specs.Graph.{Arc, no_arc, mate, are_mates, mates_fit}
+use Rattle.skew.specs.Graph.{no_arc, mate, are_mates, mates_fit}
+use Rattle.skew.specs.declared.Arc.{Arc}
 use Rattle.counting.proofs.Booleans.{and_left, and_right, same_or}
 
 pub mate_is : (v : ℕ) → mate v ≡ v + 1 - 2 * (v % 2)

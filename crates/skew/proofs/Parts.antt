@@ -15,7 +15,8 @@ use lib.ListN.{length}
 use borrow.Author.Tests.{eqb-true, eq-eqb, ltb-true, ltb-false}
 use Rattle.counting.specs.Tests.{any, among}
 use Rattle.counting.specs.Lists.{In, Within, Distinct}
-use Rattle.skew.specs.Graph.{Arc, no_arc, Graph, joins_in, part_once, part_by, least_of}
+use Rattle.skew.specs.Graph.{no_arc, Graph, joins_in, part_once, part_by, least_of}
+use Rattle.skew.specs.declared.Arc.{Arc}
 use Rattle.skew.specs.Paths.{tail, head}
 use Rattle.skew.specs.Parts.{Adjacent, PartClosed}
 use Rattle.counting.proofs.Booleans.{and_two, or_right, or_cases, by_test, true_false}

@@ -5,7 +5,8 @@
 --   EntryArc g cs i c      arc i leads from A into class c, an Xi
 --   NodeClass g v          a node's canonical class, by whether it and its mate are reachable
 use Rattle.std.specs.Prelude.{◌≡◌, Bool, true, false, ◌&&◌, ◌||◌, not, List, ℕ, ◌+◌, ◌≤◌, ◌<◌, eqb, length}
-use Rattle.skew.specs.Graph.{Arc, Graph, mate, nodes, is_reachable, class_at, largest_of, mate_class, entries_into, isXM, part_number, class_of}
+use Rattle.skew.specs.Graph.{Graph, mate, nodes, is_reachable, class_at, largest_of, mate_class, entries_into, isXM, part_number, class_of}
+use Rattle.skew.specs.declared.Arc.{Arc}
 use Rattle.skew.specs.Paths.{tail, head}
 
 abbrev pub classes_fit : (from to : ℕ) → Bool

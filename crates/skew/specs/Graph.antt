@@ -1,6 +1,6 @@
 -- Doubled (skew-symmetric) graphs, regular paths, barriers and the canonical barrier (document 01, "The graph" and "The barrier"; document 000,
 -- section 2; the definitions are document 03's).
---   Arc, arc v w                               an arc: its tail and its head; the one from v to w
+--   arc v w                                     the arc from v to w
 --   no_arc                                      the arc of zeros, read past a list's end
 --   arc_of x, arcs_of xs                         a pair of numbers as an arc, its first the tail, its second the head; each pair of a list
 --   Graph                                      mate pairs of nodes, the source, and arcs in file order
@@ -27,13 +27,10 @@
 --   class_of g v, classes_from g vs, canonical g      the canonical barrier: of a node, of some, of all in order
 use Rattle.std.specs.Prelude.{Bool, true, ◌&&◌, ◌||◌, not, List, [], ◌∷◌, ℕ, zero, suc, ◌+◌, ◌*◌, ◌-◌, ◌%◌, ltb, leb, eqb, length, get_or}
 use Rattle.counting.specs.Tests.{pick, all, any, among, below, none_twice, keep}
-use Rattle.counting.specs.Pairs.{Pair}
+use Rattle.counting.specs.declared.Pair.{Pair}
+use Rattle.skew.specs.declared.Arc.{Arc}
 
 -- AN ARC: the node that it leaves, and the one that it leads to
-pub record Arc : Type 0 where
-  pub tail : ℕ
-  pub head : ℕ
-
 abbrev pub arc : (tail head : ℕ) → Arc
 arc v w = record { tail = v; head = w }
 

@@ -1,4 +1,6 @@
-// Theory without code: skew-symmetric graphs, regular paths and barriers (documents 000 and 001).
+// Skew-symmetric graphs, regular paths and barriers (documents 000 and 001): the theory, and an arc as code keeps it.
+//   Arc                                  the node that an arc leaves, and the one that it leads to
+//   NO_ARC                               what stands in an array of arcs before anything is put into it
 //   specs/Graph, Promise                 the definitions of document 03, and what is promised of every well-formed graph
 //   proofs/Promise                       regular paths reach exactly the reachable nodes; a path, or the canonical barrier, and never both
 // Why no path means a barrier (document 000, theorem 2.2):
@@ -16,3 +18,26 @@
 //                                        comes by its one entry, and from there into A' leads only that entry's mate.
 // The steps may be taken in any order (proofs/Scan).
 #![tactic(auto)]
+
+use counting::{FromPair, Pair};
+
+#[derive(Clone, Copy, PartialEq, Eq)]
+pub struct Arc {
+    pub tail: u8,
+    pub head: u8,
+}
+
+pub const NO_ARC: Arc = Arc { tail: 0, head: 0 };
+
+impl FromPair for Arc {
+    ghost use Rattle.skew.specs.Graph.{arc_of};
+
+    ghost of_pair = { arc_of };
+
+    fn from_pair(pair: Pair) -> Arc {
+        Arc {
+            tail: pair.first,
+            head: pair.second,
+        }
+    }
+}

@@ -1,34 +1,11 @@
 -- `lanes::check` meets its contract: the graph refused, or the certificate judged over the graph that was read.
-use mathlib.Core.Path.{sym}
-use lib.Seq.{length-take-le}
-use Rattle.lanes.specs.GraphCalls.{GraphTaken}
-use Rattle.lanes.proofs.GraphCalls.{graph_taken}
-use Rattle.lanes.proofs.Checks.{check_refused, check_judged}
+use Rattle.std.proofs.Common.{subst, ◌∙◌}
+use Rattle.lanes.specs.Taken.{GraphTaken}
+use Rattle.lanes.proofs.Checks.{ok_through, verdict_told, check_judged}
 use Rattle.lanes.proofs.check.Goals as goal
-use Rattle.lanes.proofs.check.Goals.{Else-number-ne0}
-
-taken : (c : Else-number-ne0) →
-    let g = c.read_graph-g in
-    GraphTaken c.args.graph.now g.new.tails g.new.heads g.result.pairs g.result.source g.result.arcs
-taken c = graph_taken c.read_graph-g.ensures c.if-number-ne0.false
-
-pub returns-then-number-ne0 : goal.returns-then-number-ne0
-returns-then-number-ne0 c = check_refused c.args.graph.now c.args.cert.now c.read_graph-g.ensures.says c.if-number-ne0.true
-
-pub slice_bounds-tails-end : goal.slice_bounds-tails-end
-slice_bounds-tails-end c = (taken (goal.at.slice_bounds-tails-end c).Else-number-ne0).held.room.first
-
-pub slice_bounds-judge-end : goal.slice_bounds-judge-end
-slice_bounds-judge-end c = sym (length-take-le _ _ (taken (goal.at.slice_bounds-judge-end c).Else-number-ne0).held.room.first)
-
-pub slice_bounds-heads-end : goal.slice_bounds-heads-end
-slice_bounds-heads-end c = (taken (goal.at.slice_bounds-heads-end c).Else-number-ne0).held.room.second
-
-pub slice_bounds-judge-end-2 : goal.slice_bounds-judge-end-2
-slice_bounds-judge-end-2 c = sym (length-take-le _ _ (taken (goal.at.slice_bounds-judge-end-2 c).Else-number-ne0).held.room.second)
-
-pub judge-requires : goal.judge-requires
-judge-requires c = (taken (goal.at.judge-requires c).Else-number-ne0).table
 
 pub returns : goal.returns
-returns c = check_judged _ c.args.cert.now (taken (goal.at.returns c).Else-number-ne0) c.judge.ensures
+returns c =
+    let f = c.args.graph.now in
+    let taken = subst (GraphTaken f) (ok_through _ _ _ c.map_err.ensures.cases c.in_ok-graph.was) c.graph_in.ensures in
+    check_judged f c.args.cert.now taken.0 taken.1 (verdict_told _ _ c.map_err-2.ensures.cases ∙ c.judge.ensures)

@@ -1,9 +1,11 @@
 -- `lanes_c::lanes_graph` meets its contract.
+use Rattle.lanes.specs.Calls.{told_in}
 use Rattle.lanes_c.proofs.Tallies.{called}
 use Rattle.lanes_c.proofs.lanes_graph.Goals as goal
 
 pub returns : goal.returns
 returns c =
     let a = c.args in
-    let answer = c.answer_graph_by-answer in
-    called a.tally.now a.caller answer.result.told answer.ensures.owes c.pack.ensures c.count.ensures answer.ensures.outcome
+    let answer = c.answer_graph_by in
+    let told = c.told.ensures in
+    called a.tally.now a.caller (told_in answer.result) answer.ensures.owes told.value told.counted answer.ensures.outcome

@@ -1,10 +1,9 @@
--- `lanes_print::print_budget` meets its contract.
-use native.Mathlib.Omega.{arith}
-use Rattle.lanes_print.proofs.Printing.{budget_prints}
+use Rattle.std.proofs.Common.{refl, rules, arith}
+use Rattle.lanes.specs.Entry.{no_searches}
+use Rattle.lanes_print.proofs.Printing.{told_mapped, budget_prints}
 use Rattle.lanes_print.proofs.print_budget.Goals as goal
 
 pub returns : goal.returns
 returns c =
-    let said = c.most_said.ensures in
-    let a = c.args in
-    budget_prints _ a.file.now (omega arith) (rw said at c.budget_by-answer.ensures.owes) c.show.ensures
+    let told = told_mapped (λ x. x.size) no_searches refl c.budget_by.result c.map-told.result (search rules) in
+    budget_prints _ c.args.file.now (omega arith) (rw c.most_said.ensures at c.budget_by.ensures.owes) (rw told at c.show.ensures)

@@ -1,13 +1,8 @@
+use Rattle.std.proofs.Common.{rules, ℕ}
 use Rattle.formats.specs.Kinds.{step_kind}
-use Rattle.frames.proofs.Writes.{frame_of4_length}
-use Rattle.files.proofs.AnswerLines.{writing_start, writing_next, writing_end}
+use Rattle.frames.specs.Frames.{frame_of4}
+use Rattle.frames.proofs.Writes.{frame_of4_parts}
 use Rattle.files.proofs.answers.put_arcs.Goals as goal
 
-pub loop-i-init : goal.loop-i-init
-loop-i-init c = writing_start _ _ _ _
-
-pub loop-i-preserved : goal.loop-i-preserved
-loop-i-preserved c = writing_next c.loop-i.invariant c.loop-i-test.true c.put_frame_of4-next.ensures
-
 pub returns : goal.returns
-returns c = writing_end c.loop-i.invariant (λ i x. frame_of4_length step_kind x) c.loop-i-test.false
+returns c = c.put_lines.ensures (λ (i : ℕ) (x : ℕ). frame_of4 step_kind x) (λ i x r p. search (rules, frame_of4_parts))

@@ -1,13 +1,8 @@
+use Rattle.std.proofs.Common.{rules, ℕ}
 use Rattle.formats.specs.Kinds.{pair_kind}
-use Rattle.frames.proofs.Writes.{frame6_length}
-use Rattle.files.proofs.AnswerLines.{writing_start, writing_next, writing_end}
+use Rattle.counting.specs.declared.Pair.{Pair}
+use Rattle.frames.specs.Frames.{frame6}
 use Rattle.files.proofs.answers.put_pairs.Goals as goal
 
-pub loop-i-init : goal.loop-i-init
-loop-i-init c = writing_start _ _ _ _
-
-pub loop-i-preserved : goal.loop-i-preserved
-loop-i-preserved c = writing_next c.loop-i.invariant c.loop-i-test.true c.put_frame6-next.ensures
-
 pub returns : goal.returns
-returns c = writing_end c.loop-i.invariant (λ i x. frame6_length pair_kind x _) c.loop-i-test.false
+returns c = c.put_lines.ensures (λ (i : ℕ) (x : Pair). frame6 pair_kind x.first x.second) (λ i x r p. search rules)

@@ -1,8 +1,7 @@
 -- `files::answers::put_path` meets its contract: three parts, one behind the other.
-use native.Mathlib.Omega.{arith}
+use Rattle.std.proofs.Common.{arith}
 use Rattle.files.proofs.AnswerLines.{path_lines_lem, first_written}
 use Rattle.files.proofs.answers.put_path.Goals as goal
 
 pub returns : goal.returns
-returns c =
-    rw (path_lines_lem _ _) at (first_written c.put_frame2-first.ensures c.put_arcs-last.ensures c.put_frame_of4.ensures (omega arith))
+returns c = rw (path_lines_lem _ _) at (first_written c.put_frame-first.ensures c.put_arcs-last.ensures c.put_frame_of4.ensures (omega arith))

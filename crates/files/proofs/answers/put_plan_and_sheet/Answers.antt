@@ -1,5 +1,5 @@
 -- `files::answers::put_plan_and_sheet` meets its contract: two halves, one behind the other.
-use native.Mathlib.Omega.{arith}
+use Rattle.std.proofs.Common.{arith}
 use Rattle.frames.proofs.Writes.{written_then}
 use Rattle.files.proofs.AnswerLines.{front_written}
 use Rattle.files.proofs.answers.put_plan_and_sheet.Goals as goal

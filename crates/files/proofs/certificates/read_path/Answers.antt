@@ -1,31 +1,30 @@
 -- `files::certificates::read_path` meets its contract: one law for each way a path's questions end.
-use mathlib.Core.Path.{sym, ◌∙◌}
-use native.Mathlib.Omega.{arith}
-use Rattle.files.proofs.CertificateFiles.{path_shape, path_many, path_room, path_holds, path_read}
+use Rattle.std.proofs.Common.{refl, sym, ◌∙◌, arith}
+use Rattle.std.proofs.lemmas.Result.{err_from_is_err_and}
+use Rattle.frames.proofs.Questions.{refusal_some, beside_refusal}
+use Rattle.files.proofs.CertificateFiles.{path_shape, path_eight, path_refused, path_room, path_read}
 use Rattle.files.proofs.certificates.read_path.Goals as goal
 
-pub returns-then-number-ne0 : goal.returns-then-number-ne0
-returns-then-number-ne0 c = path_shape c.path_shape-shape.ensures c.if-number-ne0.true c.told.ensures
+pub returns-in_err-path : goal.returns-in_err-path
+returns-in_err-path c =
+    let p = err_from_is_err_and c.from_residual.result c.from_residual.ensures.1 in
+    rw (p.1, p.2) (path_refused (path_shape c.in_err-path.ensures (refusal_some _)) (refusal_some _))
 
-pub returns-then-count-gt-STEPS_MOST : goal.returns-then-count-gt-STEPS_MOST
-returns-then-count-gt-STEPS_MOST c =
-    path_many c.path_shape-shape.ensures c.if-number-ne0.false c.if-count-gt-STEPS_MOST.true c.told-then-count-gt-STEPS_MOST.ensures
+pub returns-in_err-ask : goal.returns-in_err-ask
+returns-in_err-ask c =
+    let p = err_from_is_err_and c.from_residual-in_err-ask.result c.from_residual-in_err-ask.ensures.1 in
+    rw (p.1, p.2) (path_refused (c.in_err-ask.ensures ∙ sym (path_eight c.in_ok-path.ensures refl)) (refusal_some _))
 
-pub store_numbers-requires : goal.store_numbers-requires
-store_numbers-requires c =
-    let r = path_room c.path_shape-shape.ensures c.if-number-ne0.false c.if-count-gt-STEPS_MOST.false in
-    (r.0, omega arith)
+pub store-requires : goal.store-requires
+store-requires c = let r = path_room c.in_ok-path.ensures refl c.in_ok-ask.ensures in (r.0, omega (arith, r.1))
 
-pub are_below-requires : goal.are_below-requires
-are_below-requires c =
-    path_holds c.path_shape-shape.ensures c.if-number-ne0.false c.if-count-gt-STEPS_MOST.false c.store_numbers.ensures
-
-pub returns-then-not-are_below : goal.returns-then-not-are_below
-returns-then-not-are_below c =
-    let below = sym c.are_below.ensures ∙ c.if-not-are_below.true in
-    path_read c.path_shape-shape.ensures c.if-number-ne0.false c.if-count-gt-STEPS_MOST.false c.store_numbers.ensures _ (rw below) c.told-then-not-are_below.ensures
+pub returns-in_err-ask-2 : goal.returns-in_err-ask-2
+returns-in_err-ask-2 c =
+    let p = err_from_is_err_and c.from_residual-in_err-ask-2.result c.from_residual-in_err-ask-2.ensures.1 in
+    rw (p.1, p.2)
+    (simp beside_refusal at
+    (path_read c.in_ok-path.ensures refl c.in_ok-ask.ensures c.store.ensures (rw c.are_below.ensures at c.in_err-ask-2.ensures)))
 
 pub returns : goal.returns
 returns c =
-    let below = sym c.are_below.ensures ∙ c.if-not-are_below.false in
-    path_read c.path_shape-shape.ensures c.if-number-ne0.false c.if-count-gt-STEPS_MOST.false c.store_numbers.ensures _ (rw below) c.told-2.ensures
+    path_read c.in_ok-path.ensures refl c.in_ok-ask.ensures c.store.ensures (rw c.are_below.ensures at c.in_ok-ask-2.ensures)

@@ -1,57 +1,65 @@
 -- `files::graphs::read_graph` meets its contract: one law for each way the questions end.
-use mathlib.Core.Path.{sym, ◌∙◌}
-use native.Mathlib.Omega.{arith}
-use Rattle.files.proofs.GraphFiles.{GraphBody, graph_header, header_long, header_next, graph_five, graph_body, body_read, graph_odd, graph_many, graph_room, graph_holds, no_graph, graph_read}
+use Rattle.std.proofs.Common.{refl, sym, ◌∙◌, arith}
+use Rattle.std.proofs.lemmas.Result.{err_from_is_err_and}
+use Rattle.frames.proofs.Questions.{refusal_some, beside_refusal}
+use Rattle.files.proofs.GraphFiles.{graph_header, graph_five, header_long, header_next, GraphBody, graph_body, body_read, graph_eight, graph_room, graph_refused, graph_read}
 use Rattle.files.proofs.graphs.read_graph.Goals as goal
-use Rattle.files.proofs.graphs.read_graph.Goals.{Else-number-ne0-2}
+use Rattle.files.proofs.graphs.read_graph.Goals.{In_ok-count}
 
 -- past questions 2 to 7
-body_at : (c : Else-number-ne0-2) →
-    GraphBody c.args.f.now c.graph_header-header.result.next c.hex2-pairs.result c.hex2-source.result c.graph_body-body.result.count
-    c.graph_body-body.result.firsts
+body_at : (c : In_ok-count) →
+    GraphBody c.args.f.now c.in_ok-next.next c.number_at-pairs.result c.number_at-source.result c.in_ok-count.field-0.count c.in_ok-count.field-0.firsts
 body_at c =
-    body_read c.graph_header-header.ensures c.if-number-ne0.false c.hex2-pairs.ensures c.hex2-source.ensures
-    (sym c.header_fits.ensures ∙ c.if-not-header_fits.false) c.graph_body-body.ensures c.if-number-ne0-2.false
+    body_read c.in_ok-next.ensures refl c.number_at-pairs.ensures c.number_at-source.ensures (rw c.header_fits.ensures at c.in_ok-ask.ensures) c.in_ok-count.ensures refl
 
-pub returns-then-number-ne0 : goal.returns-then-number-ne0
-returns-then-number-ne0 c = no_graph (graph_header c.graph_header-header.ensures c.if-number-ne0.true) c.if-number-ne0.true c.told.ensures
+pub returns-in_err-next : goal.returns-in_err-next
+returns-in_err-next c =
+    let p = err_from_is_err_and c.from_residual.result c.from_residual.ensures.1 in
+    rw (p.1, p.2) (graph_refused (graph_header c.in_err-next.ensures (refusal_some _)) (refusal_some _))
 
-pub hex2-pairs-requires : goal.hex2-pairs-requires
-hex2-pairs-requires c = omega (arith, header_long c.graph_header-header.ensures c.if-number-ne0.false)
+pub number_at-pairs-requires-clause-inside : goal.number_at-pairs-requires-clause-inside
+number_at-pairs-requires-clause-inside c = omega (arith, header_long c.in_ok-next.ensures refl)
 
-pub hex2-source-requires : goal.hex2-source-requires
-hex2-source-requires c = omega (arith, header_long c.graph_header-header.ensures c.if-number-ne0.false)
+pub number_at-source-requires-clause-inside : goal.number_at-source-requires-clause-inside
+number_at-source-requires-clause-inside c = header_long c.in_ok-next.ensures refl
 
-pub returns-then-not-header_fits : goal.returns-then-not-header_fits
-returns-then-not-header_fits c =
-    no_graph
-    (graph_five c.graph_header-header.ensures c.if-number-ne0.false c.hex2-pairs.ensures c.hex2-source.ensures
-    (sym c.header_fits.ensures ∙ c.if-not-header_fits.true)) (λ z. omega arith) c.told-then-not-header_fits.ensures
+pub returns-in_err-ask : goal.returns-in_err-ask
+returns-in_err-ask c =
+    let p = err_from_is_err_and c.from_residual-in_err-ask.result c.from_residual-in_err-ask.ensures.1 in
+    rw (p.1, p.2)
+    (graph_refused
+    (graph_five c.in_ok-next.ensures refl c.number_at-pairs.ensures c.number_at-source.ensures (rw c.header_fits.ensures at c.in_err-ask.ensures) (refusal_some _))
+    (refusal_some _))
 
-pub graph_body-body-requires : goal.graph_body-body-requires
-graph_body-body-requires c = header_next c.graph_header-header.ensures c.if-number-ne0.false
+pub body_of-requires : goal.body_of-requires
+body_of-requires c = header_next c.in_ok-next.ensures refl
 
-pub returns-then-number-ne0-2 : goal.returns-then-number-ne0-2
-returns-then-number-ne0-2 c =
-    no_graph
-    (graph_body c.graph_header-header.ensures c.if-number-ne0.false c.hex2-pairs.ensures c.hex2-source.ensures
-    (sym c.header_fits.ensures ∙ c.if-not-header_fits.false) c.graph_body-body.ensures c.if-number-ne0-2.true) c.if-number-ne0-2.true c.told-then-number-ne0-2.ensures
+pub returns-in_err-count : goal.returns-in_err-count
+returns-in_err-count c =
+    let p = err_from_is_err_and c.from_residual-in_err-count.result c.from_residual-in_err-count.ensures.1 in
+    rw (p.1, p.2)
+    (graph_refused
+    (graph_body c.in_ok-next.ensures refl c.number_at-pairs.ensures c.number_at-source.ensures (rw c.header_fits.ensures at c.in_ok-ask.ensures) c.in_err-count.ensures (refusal_some _))
+    (refusal_some _))
 
-pub returns-then-arcs-ne0 : goal.returns-then-arcs-ne0
-returns-then-arcs-ne0 c =
-    no_graph (graph_odd (body_at (goal.at.returns-then-arcs-ne0 c).Else-number-ne0-2) c.if-arcs-ne0.true) (λ z. omega arith) c.told-then-arcs-ne0.ensures
+pub returns-in_err-ask-2 : goal.returns-in_err-ask-2
+returns-in_err-ask-2 c =
+    let p = err_from_is_err_and c.from_residual-in_err-ask-2.result c.from_residual-in_err-ask-2.ensures.1 in
+    let body = body_at (goal.at.returns-in_err-ask-2 c).In_ok-count in
+    rw (p.1, p.2)
+    (graph_refused (c.in_err-ask-2.ensures ∙ rw c.arcs_fit.ensures (sym (graph_eight body))) (refusal_some _))
 
-pub returns-then-arcs-gt-ARCS_MOST : goal.returns-then-arcs-gt-ARCS_MOST
-returns-then-arcs-gt-ARCS_MOST c =
-    no_graph (graph_many (body_at (goal.at.returns-then-arcs-gt-ARCS_MOST c).Else-number-ne0-2) c.if-arcs-gt-ARCS_MOST.true) (λ z. omega arith) c.told-then-arcs-gt-ARCS_MOST.ensures
+pub store-requires : goal.store-requires
+store-requires c =
+    graph_room (body_at (goal.at.store-requires c).In_ok-count) _ (rw c.arcs_fit.ensures at c.in_ok-ask-2.ensures) c.requires
 
-pub store_pairs-requires : goal.store_pairs-requires
-store_pairs-requires c =
-    graph_room (body_at (goal.at.store_pairs-requires c).Else-number-ne0-2) c.if-arcs-gt-ARCS_MOST.false c.requires
-
-pub arcs_fault-requires : goal.arcs_fault-requires
-arcs_fault-requires c = graph_holds (body_at (goal.at.arcs_fault-requires c).Else-number-ne0-2) c.store_pairs.ensures
+pub returns-in_err-ask_arcs : goal.returns-in_err-ask_arcs
+returns-in_err-ask_arcs c =
+    let p = err_from_is_err_and c.from_residual-in_err-ask_arcs.result c.from_residual-in_err-ask_arcs.ensures.1 in
+    let body = body_at (goal.at.returns-in_err-ask_arcs c).In_ok-count in
+    rw (p.1, p.2)
+    (simp beside_refusal at (graph_read body c.store.ensures (rw c.arcs_fit.ensures at c.in_ok-ask-2.ensures) c.in_err-ask_arcs.ensures))
 
 pub returns : goal.returns
 returns c =
-    graph_read (body_at (goal.at.returns c).Else-number-ne0-2) c.store_pairs.ensures c.if-arcs-ne0.false c.if-arcs-gt-ARCS_MOST.false c.arcs_fault.ensures c.told-2.ensures
+    graph_read (body_at (goal.at.returns c).In_ok-count) c.store.ensures (rw c.arcs_fit.ensures at c.in_ok-ask-2.ensures) c.in_ok-ask_arcs.ensures

@@ -1,25 +1,20 @@
-use mathlib.Core.Path.{sym}
-use mathlib.Core.Logic.{inl, inr}
-use Rattle.files.proofs.PairScans.{look_start, look_end, look_next, look_fails, look_settled}
+-- `files::look_up::look_up` meets its contract: the first fit that is not smaller ends the look-up.
+use Rattle.std.proofs.Common.{◌∙◌, rules, sym, not}
+use Rattle.std.proofs.lemmas.Iterator.{YieldsList-from_slice}
+use Rattle.std.proofs.lemmas.Iterator.Search.{position_from_yields_List}
+use Rattle.counting.specs.declared.Pair.{Pair}
+use Rattle.matching.specs.Stock.{pair_before}
+use Rattle.files.proofs.PairScans.{look_found, look_none}
 use Rattle.files.proofs.look_up.look_up.Goals as goal
-use Rattle.files.proofs.look_up.look_up.Goals.{then-u-firsts+else-u-firsts-2+else-v-seconds, else-u-firsts}
 
-pub loop-i-init : goal.loop-i-init
-loop-i-init c = look_start _ _ _ _
+pub returns-in-Some : goal.returns-in-Some
+returns-in-Some c =
+    let test = λ (y : Pair). not (pair_before y c.args.pair) in
+    let e = position_from_yields_List test _ _ _ c.position-at.ensures.ran (YieldsList-from_slice c.args.fits.now cc) (λ x b q k. search rules) in
+    look_found c.args.fits.now c.args.pair c.in-Some.i (sym e ∙ c.in-Some.is) c.eq.ensures
 
-pub returns-then-u-firsts-2 : goal.returns-then-u-firsts-2
-returns-then-u-firsts-2 c = look_fails c.requires c.loop-i.invariant c.loop-i-test.true c.if-u-firsts.true c.if-u-firsts-2.true
-
-pub returns-then-v-seconds : goal.returns-then-v-seconds
-returns-then-v-seconds c = look_settled c.requires c.loop-i.invariant c.loop-i-test.true c.if-u-firsts-2.false c.if-v-seconds.true
-
-pub loop-i-preserved : goal.loop-i-preserved
-loop-i-preserved c =
-    look_next c.requires c.loop-i.invariant c.loop-i-test.true
-    (elim c.if-u-firsts.branch [
-      | then-u-firsts+else-u-firsts-2+else-v-seconds w ↦ inr (sym w.if-u-firsts-2.false, w.if-v-seconds.false)
-      | else-u-firsts w ↦ inl w.if-u-firsts.false
-    ])
-
-pub returns : goal.returns
-returns c = look_end c.requires c.loop-i.invariant c.loop-i-test.false
+pub returns-in-None : goal.returns-in-None
+returns-in-None c =
+    let test = λ (y : Pair). not (pair_before y c.args.pair) in
+    let e = position_from_yields_List test _ _ _ c.position-at.ensures.ran (YieldsList-from_slice c.args.fits.now cc) (λ x b q k. search rules) in
+    look_none c.args.fits.now c.args.pair (sym e ∙ c.in-None.is)

@@ -1,31 +1,41 @@
 -- `files::plans::read_plan` meets its contract: one law for each way the questions end.
-use mathlib.Core.Path.{sym}
-use Rattle.frames.proofs.Questions.{answered_none, answered_refused}
-use Rattle.files.proofs.PlanFiles.{plan_shape_lem, plan_long, plan_seven, plan_room, plan_holds, plan_read}
+use Rattle.std.proofs.Common.{refl, sym, ◌∙◌, length-take-le}
+use Rattle.std.proofs.lemmas.Result.{err_from_is_err_and}
+use Rattle.frames.proofs.Questions.{refusal_some, beside_refusal}
+use Rattle.files.proofs.PlanFiles.{plan_refused, plan_shape_lem, plan_seven, plan_long, plan_room, plan_holds, plan_read}
 use Rattle.files.proofs.plans.read_plan.Goals as goal
 
-pub returns-then-number-ne0 : goal.returns-then-number-ne0
-returns-then-number-ne0 c = plan_shape_lem c.plan_shape-shape.ensures c.if-number-ne0.true
+pub returns-in_err-plan : goal.returns-in_err-plan
+returns-in_err-plan c =
+    let p = err_from_is_err_and c.from_residual.result c.from_residual.ensures.1 in
+    rw (p.1, p.2) (plan_refused (plan_shape_lem c.in_err-plan.ensures (refusal_some _)) (refusal_some _))
 
-pub hex2-requires : goal.hex2-requires
-hex2-requires c = plan_long c.plan_shape-shape.ensures c.if-number-ne0.false
+pub number_at-requires-clause-inside : goal.number_at-requires-clause-inside
+number_at-requires-clause-inside c = plan_long c.in_ok-plan.ensures refl
 
-pub returns-then-hex2-count : goal.returns-then-hex2-count
-returns-then-hex2-count c = plan_seven c.plan_shape-shape.ensures c.if-number-ne0.false c.hex2.ensures c.if-hex2-count.true
+pub returns-in_err-ask : goal.returns-in_err-ask
+returns-in_err-ask c =
+    let p = err_from_is_err_and c.from_residual-in_err-ask.result c.from_residual-in_err-ask.ensures.1 in
+    rw (p.1, p.2)
+    (plan_refused (c.in_err-ask.ensures ∙ sym (plan_seven c.in_ok-plan.ensures refl c.number_at.ensures)) (refusal_some _))
 
-pub store_pairs-requires : goal.store_pairs-requires
-store_pairs-requires c = plan_room c.plan_shape-shape.ensures c.if-number-ne0.false c.hex2.ensures c.if-hex2-count.false c.requires.1
+pub store-requires : goal.store-requires
+store-requires c = plan_room c.in_ok-plan.ensures refl c.number_at.ensures c.in_ok-ask.ensures _ c.requires
 
-pub pairing_fault-number-requires : goal.pairing_fault-number-requires
-pairing_fault-number-requires c =
-    (c.requires.0, plan_holds c.plan_shape-shape.ensures c.if-number-ne0.false c.hex2.ensures c.if-hex2-count.false c.store_pairs.ensures)
+pub slice_bounds-ask_pairing-end : goal.slice_bounds-ask_pairing-end
+slice_bounds-ask_pairing-end c = (plan_holds c.in_ok-plan.ensures refl c.number_at.ensures c.in_ok-ask.ensures c.store.ensures).0
 
-pub returns-then-number-ne0-2 : goal.returns-then-number-ne0-2
-returns-then-number-ne0-2 c =
-    plan_read c.plan_shape-shape.ensures c.if-number-ne0.false c.hex2.ensures c.if-hex2-count.false c.store_pairs.ensures c.pairing_fault-number.ensures
-    (sym (answered_refused _ c.if-number-ne0-2.true))
+pub slice_bounds-ask_pairing-end-2 : goal.slice_bounds-ask_pairing-end-2
+slice_bounds-ask_pairing-end-2 c =
+    sym (length-take-le _ _ (plan_holds c.in_ok-plan.ensures refl c.number_at.ensures c.in_ok-ask.ensures c.store.ensures).0)
+
+pub returns-in_err-ask_pairing : goal.returns-in_err-ask_pairing
+returns-in_err-ask_pairing c =
+    let p = err_from_is_err_and c.from_residual-in_err-ask_pairing.result c.from_residual-in_err-ask_pairing.ensures.1 in
+    rw (p.1, p.2)
+    (simp beside_refusal at
+    (plan_read c.in_ok-plan.ensures refl c.number_at.ensures c.in_ok-ask.ensures c.store.ensures c.in_err-ask_pairing.ensures))
 
 pub returns : goal.returns
 returns c =
-    plan_read c.plan_shape-shape.ensures c.if-number-ne0.false c.hex2.ensures c.if-hex2-count.false c.store_pairs.ensures c.pairing_fault-number.ensures
-    (sym (answered_none _ c.if-number-ne0-2.false))
+    plan_read c.in_ok-plan.ensures refl c.number_at.ensures c.in_ok-ask.ensures c.store.ensures c.in_ok-ask_pairing.ensures

@@ -1,26 +1,31 @@
-use mathlib.Core.Path.{refl, sym, ◌∙◌}
-use native.Mathlib.Omega.{arith}
-use lib.ListN.{length-set}
-use Rattle.counting.specs.Tests.{all}
-use Rattle.files.proofs.SharedCameras.{shared_start, shared_next, shared_fails_first, shared_fails_second, shared_end}
+use Rattle.std.proofs.Common.{◌∙◌, sym, ◌<◌, arith, length-set, refl}
+use Rattle.files.proofs.SharedCameras.{shared_start, shared_fails_first, shared_fails_second, shared_next, shared_end}
 use Rattle.files.proofs.questions.none_shared.Goals as goal
+use Rattle.files.proofs.questions.none_shared.Goals.{then-flags-first-via-then-flags-first, then-flags-first-via-else-flags-first+then-flags-second}
 
-pub loop-i-init : goal.loop-i-init
-unfolding all
-loop-i-init c = (refl, shared_start _ _ refl)
+pub loop-pair-init : goal.loop-pair-init
+loop-pair-init c = (refl, shared_start 256 c.args.pairs.now)
 
-pub returns-then-flags-u-gt0 : goal.returns-then-flags-u-gt0
-returns-then-flags-u-gt0 c = sym (c.loop-i.invariant.1 ∙ shared_fails_first c.requires _ _ c.loop-i-test.true c.if-flags-u-gt0.true)
+pub returns-then-flags-first : goal.returns-then-flags-first
+returns-then-flags-first c =
+    sym (c.loop-pair.invariant.1 ∙
+    (elim c.then-flags-first.branch [
+      | then-flags-first-via-then-flags-first w ↦
+          shared_fails_first _ _ _ c.loop-pair-test.true (rw c.from-first.ensures at w.if-flags-first.true)
+      | then-flags-first-via-else-flags-first+then-flags-second w ↦
+          shared_fails_second _ _ _ c.loop-pair-test.true (rw c.from-second.ensures at w.if-flags-second.true)
+    ]))
 
-pub returns-then-flags-v-gt0 : goal.returns-then-flags-v-gt0
-returns-then-flags-v-gt0 c = sym (c.loop-i.invariant.1 ∙ shared_fails_second c.requires _ _ c.loop-i-test.true c.if-flags-v-gt0.true)
-
-pub loop-i-preserved : goal.loop-i-preserved
-loop-i-preserved c =
-    let inv = c.loop-i.invariant in
-    let u = c.type_inv.firsts c.loop-i.i in
-    let v = c.type_inv.seconds c.loop-i.i in
-    (simp length-set (omega arith), inv.1 ∙ shared_next c.requires _ _ c.loop-i-test.true inv.0 (omega arith) (omega arith) c.if-flags-u-gt0.false c.if-flags-v-gt0.false)
+pub loop-pair-preserved : goal.loop-pair-preserved
+loop-pair-preserved c =
+    let first : c.from-first.result < 256 = omega arith in
+    let second : c.from-second.result < 256 = omega arith in (
+      simp length-set c.loop-pair.invariant.0,
+      c.loop-pair.invariant.1 ∙
+          (rw (← c.from-first.ensures, ← c.from-second.ensures) at
+          (shared_next c.args.pairs.now c.loop-pair.flags c.loop-pair.pair-index c.loop-pair-test.true (omega arith) (omega arith)
+          (rw c.from-first.ensures at c.if-flags-first.false) (rw c.from-second.ensures at c.if-flags-second.false))),
+    )
 
 pub returns : goal.returns
-returns c = sym (c.loop-i.invariant.1 ∙ shared_end c.requires _ _ c.loop-i-test.false)
+returns c = sym (c.loop-pair.invariant.1 ∙ shared_end _ _ _ c.loop-pair-test.false)

@@ -1,21 +1,25 @@
-use mathlib.Core.Path.{sym, ◌∙◌}
-use native.Mathlib.Omega.{arith}
-use Rattle.files.proofs.PairScans.{rise_end, rise_fails_pair, rise_last, rise_next, rise_fails_order}
+-- `files::questions::pairs_rise` meets its contract: each pair is asked, then each two side by side.
+use Rattle.std.proofs.Common.{◌≡◌, ◌∙◌, rules, sym, ltb}
+use Rattle.std.proofs.lemmas.Iterator.{YieldsList-from_slice}
+use Rattle.counting.specs.Tests.{all}
+use Rattle.counting.specs.Pairs.{no_pair}
+use Rattle.counting.specs.declared.Pair.{Pair}
+use Rattle.matching.specs.Stock.{pair_before}
+use Rattle.files.proofs.PairScans.{all_of, both, yields_neighbours, rise_neighbours}
 use Rattle.files.proofs.questions.pairs_rise.Goals as goal
+use Rattle.files.proofs.questions.pairs_rise.Goals.{After-all}
 
-pub returns-then-seconds-i : goal.returns-then-seconds-i
-returns-then-seconds-i c = sym (c.loop-i.invariant ∙ rise_fails_pair c.requires _ c.loop-i-test.true c.if-seconds-i.true)
+pairs_asked : (c : After-all) → all (λ (x : Pair). ltb x.first x.second) c.args.pairs.now ≡ c.all.result
+pairs_asked c =
+    sym (all_of (λ (x : Pair). ltb x.first x.second) (YieldsList-from_slice c.args.pairs.now cc) c.all.ensures.ran (λ x b q k. search rules))
 
-pub returns-then-i-count : goal.returns-then-i-count
-returns-then-i-count c = sym (c.loop-i.invariant ∙ rise_last c.requires _ c.loop-i-test.true c.if-i-count.true c.if-seconds-i.false)
+pub returns-then-all : goal.returns-then-all
+returns-then-all c =
+    let one = pairs_asked (goal.at.returns-then-all c).After-all ∙ c.if-all.true in
+    all_of (both no_pair pair_before) (yields_neighbours c.args.pairs.now (cc) (cc)) c.all-then-all.ensures.ran (λ x b q k. search rules) ∙
+    (rw one at (rise_neighbours c.args.pairs.now))
 
-pub returns-then-not-comes_before : goal.returns-then-not-comes_before
-returns-then-not-comes_before c =
-    sym (c.loop-i.invariant ∙ rise_fails_order c.requires _ (omega arith) c.if-seconds-i.false (sym c.comes_before.ensures ∙ c.if-not-comes_before.true))
-
-pub loop-i-preserved : goal.loop-i-preserved
-loop-i-preserved c =
-    c.loop-i.invariant ∙ rise_next c.requires _ (omega arith) c.if-seconds-i.false (sym c.comes_before.ensures ∙ c.if-not-comes_before.false)
-
-pub returns : goal.returns
-returns c = sym (c.loop-i.invariant ∙ rise_end c.requires _ c.loop-i-test.false)
+pub returns-else-all : goal.returns-else-all
+returns-else-all c =
+    let one = pairs_asked (goal.at.returns-else-all c).After-all ∙ c.if-all.false in
+    c.if-all.false ∙ (rw one at (rise_neighbours c.args.pairs.now))

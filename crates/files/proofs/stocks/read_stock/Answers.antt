@@ -1,49 +1,75 @@
 -- `files::stocks::read_stock` meets its contract: one law for each way the questions end.
-use native.Mathlib.Omega.{arith}
-use Rattle.files.proofs.StockFiles.{StockBody, stock_header, header_long, header_next, stock_five, stock_body, body_read, stock_many, fits_room, lit_room, stock_holds, no_stock, stock_read}
+use Rattle.std.proofs.Common.{refl, sym, ◌∙◌, length-take-le}
+use Rattle.std.proofs.lemmas.Result.{err_from_is_err_and}
+use Rattle.frames.proofs.Questions.{refusal_some, beside_refusal}
+use Rattle.files.proofs.StockFiles.{stock_header, stock_five, header_long, header_next, StockBody, stock_body, body_read, stock_eight, fits_room, lit_room, stock_holds, stock_refused, stock_read}
 use Rattle.files.proofs.stocks.read_stock.Goals as goal
-use Rattle.files.proofs.stocks.read_stock.Goals.{Else-number-ne0-2}
+use Rattle.files.proofs.stocks.read_stock.Goals.{In_ok-firsts}
 
 -- past questions 2 to 7
-body_at : (c : Else-number-ne0-2) →
-    StockBody c.args.f.now c.stock_header-header.result.next c.hex2-cameras.result c.stock_body-body.result.count c.stock_body-body.result.firsts
-body_at c =
-    body_read c.stock_header-header.ensures c.if-number-ne0.false c.hex2-cameras.ensures c.if-cameras-gt-CAMERAS_MOST.false c.stock_body-body.ensures c.if-number-ne0-2.false
+body_at : (c : In_ok-firsts) →
+    StockBody c.args.f.now c.in_ok-next.next c.number_at-cameras.result c.in_ok-firsts.field-0.count c.in_ok-firsts.field-0.firsts
+body_at c = body_read c.in_ok-next.ensures refl c.number_at-cameras.ensures c.in_ok-ask.ensures c.in_ok-firsts.ensures refl
 
-pub returns-then-number-ne0 : goal.returns-then-number-ne0
-returns-then-number-ne0 c = no_stock (stock_header c.stock_header-header.ensures c.if-number-ne0.true) c.if-number-ne0.true c.told.ensures
+pub returns-in_err-next : goal.returns-in_err-next
+returns-in_err-next c =
+    let p = err_from_is_err_and c.from_residual.result c.from_residual.ensures.1 in
+    rw (p.1, p.2) (stock_refused (stock_header c.in_err-next.ensures (refusal_some _)) (refusal_some _))
 
-pub hex2-cameras-requires : goal.hex2-cameras-requires
-hex2-cameras-requires c = omega (arith, header_long c.stock_header-header.ensures c.if-number-ne0.false)
+pub number_at-cameras-requires-clause-inside : goal.number_at-cameras-requires-clause-inside
+number_at-cameras-requires-clause-inside c = header_long c.in_ok-next.ensures refl
 
-pub returns-then-cameras-gt-CAMERAS_MOST : goal.returns-then-cameras-gt-CAMERAS_MOST
-returns-then-cameras-gt-CAMERAS_MOST c =
-    no_stock (stock_five c.stock_header-header.ensures c.if-number-ne0.false c.hex2-cameras.ensures c.if-cameras-gt-CAMERAS_MOST.true) (λ z. omega arith) c.told-then-cameras-gt-CAMERAS_MOST.ensures
+pub returns-in_err-ask : goal.returns-in_err-ask
+returns-in_err-ask c =
+    let p = err_from_is_err_and c.from_residual-in_err-ask.result c.from_residual-in_err-ask.ensures.1 in
+    rw (p.1, p.2)
+    (stock_refused (stock_five c.in_ok-next.ensures refl c.number_at-cameras.ensures c.in_err-ask.ensures (refusal_some _)) (refusal_some _))
 
-pub stock_body-body-requires : goal.stock_body-body-requires
-stock_body-body-requires c = header_next c.stock_header-header.ensures c.if-number-ne0.false
+pub body_of-requires : goal.body_of-requires
+body_of-requires c = header_next c.in_ok-next.ensures refl
 
-pub returns-then-number-ne0-2 : goal.returns-then-number-ne0-2
-returns-then-number-ne0-2 c =
-    no_stock (stock_body c.stock_header-header.ensures c.if-number-ne0.false c.hex2-cameras.ensures c.if-cameras-gt-CAMERAS_MOST.false c.stock_body-body.ensures c.if-number-ne0-2.true)
-    c.if-number-ne0-2.true c.told-then-number-ne0-2.ensures
+pub returns-in_err-firsts : goal.returns-in_err-firsts
+returns-in_err-firsts c =
+    let p = err_from_is_err_and c.from_residual-in_err-firsts.result c.from_residual-in_err-firsts.ensures.1 in
+    rw (p.1, p.2)
+    (stock_refused
+    (stock_body c.in_ok-next.ensures refl c.number_at-cameras.ensures c.in_ok-ask.ensures c.in_err-firsts.ensures (refusal_some _)) (refusal_some _))
 
-pub returns-then-body-gt-FITS_MOST : goal.returns-then-body-gt-FITS_MOST
-returns-then-body-gt-FITS_MOST c =
-    no_stock (stock_many (body_at (goal.at.returns-then-body-gt-FITS_MOST c).Else-number-ne0-2) c.if-body-gt-FITS_MOST.true) (λ z. omega arith) c.told-then-body-gt-FITS_MOST.ensures
+pub returns-in_err-ask-2 : goal.returns-in_err-ask-2
+returns-in_err-ask-2 c =
+    let p = err_from_is_err_and c.from_residual-in_err-ask-2.result c.from_residual-in_err-ask-2.ensures.1 in
+    let body = body_at (goal.at.returns-in_err-ask-2 c).In_ok-firsts in
+    rw (p.1, p.2) (stock_refused (c.in_err-ask-2.ensures ∙ sym (stock_eight body)) (refusal_some _))
 
-pub store_pairs-fits-requires : goal.store_pairs-fits-requires
-store_pairs-fits-requires c =
-    fits_room (body_at (goal.at.store_pairs-fits-requires c).Else-number-ne0-2) c.if-body-gt-FITS_MOST.false c.requires.0
+pub store-one-requires : goal.store-one-requires
+store-one-requires c = fits_room (body_at (goal.at.store-one-requires c).In_ok-firsts) _ c.in_ok-ask-2.ensures c.requires.0
 
-pub store_pairs-lit-requires : goal.store_pairs-lit-requires
-store_pairs-lit-requires c =
-    lit_room (body_at (goal.at.store_pairs-lit-requires c).Else-number-ne0-2) c.store_pairs-fits.ensures c.requires.1
+pub store-other-requires : goal.store-other-requires
+store-other-requires c = lit_room (body_at (goal.at.store-other-requires c).In_ok-firsts) c.store-one.ensures _ c.requires.1
 
-pub pairs_fault-number-requires : goal.pairs_fault-number-requires
-pairs_fault-number-requires c =
-    stock_holds (body_at (goal.at.pairs_fault-number-requires c).Else-number-ne0-2) c.store_pairs-fits.ensures c.store_pairs-lit.ensures
+pub slice_bounds-ask_pairs-end : goal.slice_bounds-ask_pairs-end
+slice_bounds-ask_pairs-end c =
+    (stock_holds (body_at (goal.at.slice_bounds-ask_pairs-end c).In_ok-firsts) c.store-one.ensures c.store-other.ensures).0
+
+pub slice_bounds-ask_pairs-end-2 : goal.slice_bounds-ask_pairs-end-2
+slice_bounds-ask_pairs-end-2 c =
+    sym (length-take-le _ _ (stock_holds (body_at (goal.at.slice_bounds-ask_pairs-end-2 c).In_ok-firsts) c.store-one.ensures c.store-other.ensures).0)
+
+pub slice_bounds-ask_pairs-end-3 : goal.slice_bounds-ask_pairs-end-3
+slice_bounds-ask_pairs-end-3 c =
+    (stock_holds (body_at (goal.at.slice_bounds-ask_pairs-end-3 c).In_ok-firsts) c.store-one.ensures c.store-other.ensures).1
+
+pub slice_bounds-ask_pairs-end-4 : goal.slice_bounds-ask_pairs-end-4
+slice_bounds-ask_pairs-end-4 c =
+    sym (length-take-le _ _ (stock_holds (body_at (goal.at.slice_bounds-ask_pairs-end-4 c).In_ok-firsts) c.store-one.ensures c.store-other.ensures).1)
+
+pub returns-in_err-ask_pairs : goal.returns-in_err-ask_pairs
+returns-in_err-ask_pairs c =
+    let p = err_from_is_err_and c.from_residual-in_err-ask_pairs.result c.from_residual-in_err-ask_pairs.ensures.1 in
+    let body = body_at (goal.at.returns-in_err-ask_pairs c).In_ok-firsts in
+    rw (p.1, p.2)
+    (simp beside_refusal at (stock_read body c.store-one.ensures c.store-other.ensures c.in_ok-ask-2.ensures c.in_err-ask_pairs.ensures))
 
 pub returns : goal.returns
 returns c =
-    stock_read (body_at (goal.at.returns c).Else-number-ne0-2) c.store_pairs-fits.ensures c.store_pairs-lit.ensures c.if-body-gt-FITS_MOST.false c.pairs_fault-number.ensures c.told-2.ensures
+    stock_read (body_at (goal.at.returns c).In_ok-firsts) c.store-one.ensures c.store-other.ensures c.in_ok-ask-2.ensures c.in_ok-ask_pairs.ensures

@@ -1,21 +1,26 @@
 -- `frames::shape::shape_of` meets its contract: a refusal of the header, one of the body, and neither.
 use mathlib.Core.Path.{refl}
 use mathlib.Core.Bool.{true}
+use Rattle.std.proofs.lemmas.Result.{err_from_is_err_and}
+use Rattle.frames.proofs.Questions.{refusal_some}
 use Rattle.frames.proofs.HeaderFrames.{second_line}
-use Rattle.frames.proofs.ShapeFaults.{shape_header, shape_body, no_shape, answer_shape}
+use Rattle.frames.proofs.ShapeFaults.{shape_header, shape_body, shape_refused, answer_shape}
 use Rattle.frames.proofs.shape.shape_of.Goals as goal
 
-pub returns-then-number-ne0 : goal.returns-then-number-ne0
-returns-then-number-ne0 c =
-    no_shape (shape_header c.header_of-h.ensures true c.if-number-ne0.true) c.if-number-ne0.true c.no_shape.ensures
+pub returns-in_err-next : goal.returns-in_err-next
+returns-in_err-next c =
+    let p = err_from_is_err_and c.from_residual.result c.from_residual.ensures.1 in
+    let e = refusal_some c.in_err-next.field-0.0 in
+    rw (p.1, p.2) (shape_refused (shape_header c.in_err-next.ensures true e) e)
 
-pub body_from-b-requires : goal.body_from-b-requires
-body_from-b-requires c = (second_line c.header_of-h.ensures c.if-number-ne0.false).high
+pub body_of-requires : goal.body_of-requires
+body_of-requires c = (second_line c.in_ok-next.ensures refl).high
 
-pub returns-then-number-ne0-2 : goal.returns-then-number-ne0-2
-returns-then-number-ne0-2 c =
-    no_shape (shape_body c.header_of-h.ensures true c.if-number-ne0.false refl c.body_from-b.ensures)
-    c.if-number-ne0-2.true c.no_shape-then-number-ne0-2.ensures
+pub returns-in_err-body : goal.returns-in_err-body
+returns-in_err-body c =
+    let r = c.from_residual-in_err-body in
+    let p = err_from_is_err_and r.result r.ensures.1 in
+    rw (p.1, p.2) (shape_refused (shape_body c.in_ok-next.ensures true refl refl c.in_err-body.ensures) (refusal_some c.in_err-body.field-0.0))
 
 pub returns : goal.returns
-returns c = answer_shape c.header_of-h.ensures c.if-number-ne0.false c.body_from-b.ensures c.if-number-ne0-2.false
+returns c = answer_shape c.in_ok-next.ensures refl c.in_ok-body.ensures refl

@@ -1,33 +1,27 @@
 -- Each question of `is_barrier` in turn; the last by the counters.
-use mathlib.Core.Path.{◌∙◌}
-use mathlib.Core.Bool.{and-false}
-use native.Mathlib.Omega.{arith}
+use Rattle.std.proofs.Common.{◌∙◌, arith}
 use borrow.Author.Tests.{eq-eqb, ne_eqb}
+use Rattle.counting.proofs.Booleans.{true_false}
 use Rattle.arcs.proofs.Tables.{table_covers}
 use Rattle.judging.proofs.Barriers.{entered_counted}
 use Rattle.judging.proofs.barrier.is_barrier.Goals as goal
-
-pub returns-then-classes-pairs : goal.returns-then-classes-pairs
-returns-then-classes-pairs c = rw (ne_eqb _ _ c.if-classes-pairs.true)
-
-pub returns-then-classes-source-ne1 : goal.returns-then-classes-source-ne1
-returns-then-classes-source-ne1 c = rw (ne_eqb _ _ c.if-classes-source-ne1.true, and-false)
-
-pub returns-then-not-mates_agree : goal.returns-then-not-mates_agree
-returns-then-not-mates_agree c =
-    rw (← c.if-classes-pairs.false, ← c.mates_agree.ensures, c.if-not-mates_agree.true, and-false)
+use Rattle.judging.proofs.barrier.is_barrier.Goals.{then-classes-graph-eq1, else-classes-graph-eq1, then-mates_agree, else-mates_agree}
 
 pub arcs_fit-requires : goal.arcs_fit-requires
-arcs_fit-requires c = rw c.if-classes-pairs.false (table_covers c.requires)
+arcs_fit-requires c = rw c.if-classes-graph.false (table_covers c.args.graph.now.is_table)
 
-pub returns-then-not-arcs_fit : goal.returns-then-not-arcs_fit
-returns-then-not-arcs_fit c = rw (← c.arcs_fit.ensures, c.if-not-arcs_fit.true, and-false)
+pub count_entries-requires-clause-covers : goal.count_entries-requires-clause-covers
+count_entries-requires-clause-covers c = rw c.if-classes-graph.false (table_covers c.args.graph.now.is_table)
 
-pub count_entries-entries-requires : goal.count_entries-entries-requires
-count_entries-entries-requires c = record { covers = rw c.if-classes-pairs.false (table_covers c.requires); tails_len_bound = c.requires.arcs_few }
-
-pub returns : goal.returns
-returns c =
-    let sized = c.if-classes-pairs.false in
-    rw (eq-eqb _ _ sized, eq-eqb _ _ c.if-classes-source-ne1.false, ← sized, ← c.mates_agree.ensures, c.if-not-mates_agree.false, ← c.arcs_fit.ensures, c.if-not-arcs_fit.false, ← c.largest_class.ensures)
-    (c.all_entered.ensures ∙ entered_counted c.count_entries-entries.result _ _ _ (omega (arith, c.largest_class.type_inv)) c.count_entries-entries.ensures)
+pub returns-then-arcs_fit : goal.returns-then-arcs_fit
+returns-then-arcs_fit c =
+    let sized = c.if-classes-graph.false in
+    elim c.if-mates_agree.branch [
+      | then-mates_agree w ↦ elim c.if-classes-graph-eq1.branch [
+        | then-classes-graph-eq1 v ↦
+            rw (eq-eqb _ _ sized, eq-eqb _ _ v.if-classes-graph-eq1.true, ← sized, ← v.mates_agree.ensures, ← v.value-is, w.if-mates_agree.true, ← w.arcs_fit.ensures, ← w.value-is, c.if-arcs_fit.true, ← c.largest_class.ensures)
+            (c.all_entered.ensures ∙ entered_counted c.count_entries.result _ _ _ (omega (arith, c.largest_class.type_inv)) c.count_entries.ensures)
+        | else-classes-graph-eq1 v ↦ true_false w.if-mates_agree.true (v.value-is ∙ ne_eqb _ _ v.if-classes-graph-eq1.false)
+      ]
+      | else-mates_agree w ↦ true_false c.if-arcs_fit.true (w.value-is ∙ w.if-mates_agree.false)
+    ]

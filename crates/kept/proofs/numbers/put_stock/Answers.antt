@@ -5,4 +5,5 @@ use Rattle.kept.proofs.numbers.put_stock.Goals as goal
 
 pub returns : goal.returns
 returns c =
-    stock_put c.put_text.ensures c.put_text-2.ensures c.put_text-3.ensures (omega arith) c.requires.cameras_le_cameras_most c.requires.firsts_len_bound c.requires.seconds_len
+    let r = c.requires in
+    stock_put c.put_text.ensures c.put.ensures (rw c.to_be_bytes.ensures (omega arith)) (omega arith) r.cameras_le_cameras_most r.fits_len_bound

@@ -1,10 +1,6 @@
 -- `kept::slots::close_up` meets its contract: the slots below `i` are passed.
-use Prim.Native.Nat.{◌-◌}
 use Rattle.kept.specs.Slots.{Closing}
 use Rattle.kept.proofs.slots.close_up.Given as goal
 
 abbrev pub invariant-loop-i : goal.invariant-loop-i
-invariant-loop-i l = Closing l.initial.state l.count l.name l.state l.i l.left
-
-abbrev pub decreases-loop-i : goal.decreases-loop-i
-decreases-loop-i l = l.count - l.i
+invariant-loop-i l = Closing l.initial.state l.name l.state l.i l.left

@@ -1,14 +1,13 @@
-use Rattle.kept.proofs.Names.{look_start, look_next, found_none_lem, found_here}
+-- `kept::slots::find` meets its contract: the slots are looked at from the last one down.
+use Rattle.std.proofs.Common.{◌≡◌, get_or, rules, tests}
+use Rattle.std.proofs.lemmas.Iterator.{first_from_find}
+use Rattle.kept.specs.Block.{slot_at}
+use Rattle.kept.proofs.Names.{OtherName, slots_downward, found_last}
 use Rattle.kept.proofs.slots.find.Goals as goal
 
-pub loop-i-init : goal.loop-i-init
-loop-i-init c = look_start c.args.state.now c.args.count c.args.name
-
-pub returns-then-state-slot : goal.returns-then-state-slot
-returns-then-state-slot c = found_here c.loop-i.i c.loop-i-test.true c.loop-i.invariant c.if-state-slot.true
-
-pub loop-i-preserved : goal.loop-i-preserved
-loop-i-preserved c = look_next c.loop-i.i c.loop-i-test.true c.loop-i.invariant c.if-state-slot.false
-
 pub returns : goal.returns
-returns c = found_none_lem c.loop-i-test.false c.loop-i.invariant
+returns c =
+    found_last c.args.state.now c.args.name _
+    (first_from_find _ _ _ (λ k. get_or c.args.state.now (slot_at k) 0 ≡ c.args.name) (OtherName c.args.state.now c.args.name) c.find.ensures.ran
+    (rw c.kept_in.ensures at (slots_downward c.rev.result c.rev.ensures.source)) (λ x q k. search (rules, tests))
+    (λ x q k. (search (rules, tests), search (rules, tests))))

@@ -5,4 +5,6 @@ use Rattle.kept.proofs.slots.put_pairs.Goals as goal
 
 pub returns : goal.returns
 returns c =
-    pairs_put c.put_text.ensures c.put_text-2.ensures c.put_text-3.ensures (omega arith) c.requires.to_lt_names_most c.requires.firsts_len_bound c.requires.seconds_len
+    let r = c.requires in
+    let columns = rw (c.pairs_of.ensures.at, c.pairs_of.ensures.most) at c.put.ensures in
+    pairs_put (rw c.slot_at.ensures at c.put_text.ensures) columns (omega arith) r.to_lt_names_most r.pairs_len_bound

@@ -1,52 +1,31 @@
 -- The doubled table is searched; a path is followed, or the reached nodes are told.
-use native.Mathlib.Omega.{arith}
-use lib.ListN.{length-take}
-use Rattle.pairing.specs.Row.{PathFound}
-use Rattle.pairing.proofs.OneSearch.{as_long, arc_table, path_found, path_rotates, path_stepped, none_stepped}
+use Rattle.std.proofs.Common.{◌+◌, ◌*◌, ◌≤◌, ◌<◌, length, arith}
+use Rattle.pairing.proofs.OneSearch.{arc_table, path_few, path_rotates, path_stepped, none_stepped}
 use Rattle.pairing.proofs.plan.improve.Goals as goal
-use Rattle.pairing.proofs.plan.improve.Goals.{In-Path}
+use Rattle.pairing.proofs.plan.improve.Goals.{In-Some}
 
-found : (c : In-Path) →
-    let tables = c.fill_table-arcs.new in
-    PathFound c.args.row.now tables.tails tables.heads c.fill_table-arcs.result c.path_or_reached-answer.new.path c.in-Path.count
-found c =
-    let few = c.requires.paired_fits.table.cameras_few in
-    path_found _ _ _ (omega arith) c.in-Path.is c.path_or_reached-answer.ensures
+-- the path is long enough for a row of cameras
+room : (c : In-Some) → 2 * (length c.args.row.now + 1) ≤ 256
+room c = omega (arith, c.args.stock.now.is_table.cameras_few, c.requires.paired_fits.long)
 
-pub slice_bounds-path_or_reached-end : goal.slice_bounds-path_or_reached-end
-slice_bounds-path_or_reached-end c = simp length-take (omega arith)
+few : (c : In-Some) → (0 < c.in-Some.end) × (c.in-Some.end ≤ length c.path_or_reached.new.path)
+few c = path_few c.args.stock.now.is_table c.requires.paired_fits c.fill_table-count.ensures (room c) c.in-Some.ensures.0
 
-pub slice_bounds-path_or_reached-end-2 : goal.slice_bounds-path_or_reached-end-2
-slice_bounds-path_or_reached-end-2 c = simp length-take (omega arith)
+pub invariant_of-graph : goal.invariant_of-graph
+invariant_of-graph c = record { is_table = arc_table c.args.stock.now.is_table c.requires.paired_fits c.fill_table-count.ensures }
 
-pub path_or_reached-answer-requires-clause-arc_table : goal.path_or_reached-answer-requires-clause-arc_table
-path_or_reached-answer-requires-clause-arc_table c = arc_table c.requires.paired_fits c.fill_table-arcs.ensures
+pub slice_bounds-augment-count : goal.slice_bounds-augment-count
+slice_bounds-augment-count c = omega (arith, few (goal.at.slice_bounds-augment-count c).In-Some)
 
-pub path_or_reached-answer-requires-clause-reached_len : goal.path_or_reached-answer-requires-clause-reached_len
-path_or_reached-answer-requires-clause-reached_len c = let few = c.requires.paired_fits.table.cameras_few in (omega (arith, c.requires.reached_len), omega arith)
+pub slice_bounds-augment-start : goal.slice_bounds-augment-start
+slice_bounds-augment-start c = omega (arith, few (goal.at.slice_bounds-augment-start c).In-Some)
 
-pub slice_bounds-augment-end : goal.slice_bounds-augment-end
-slice_bounds-augment-end c = simp length-take (omega arith)
+pub augment-requires : goal.augment-requires
+augment-requires c = path_rotates c.args.stock.now.is_table c.requires.paired_fits c.fill_table-count.ensures (room (goal.at.augment-requires c).In-Some) c.in-Some.ensures.0
 
-pub slice_bounds-augment-end-in-Path : goal.slice_bounds-augment-end-in-Path
-slice_bounds-augment-end-in-Path c = simp length-take (omega arith)
+pub returns-in-Some : goal.returns-in-Some
+returns-in-Some c =
+    path_stepped c.args.stock.now.is_table c.requires.paired_fits c.fill_table-count.ensures (room (goal.at.returns-in-Some c).In-Some) c.in-Some.ensures.0 c.augment.ensures
 
-pub slice_bounds-path-end : goal.slice_bounds-path-end
-slice_bounds-path-end c = (found (goal.at.slice_bounds-path-end c).In-Path).few
-
-pub slice_bounds-augment-end-in-Path-2 : goal.slice_bounds-augment-end-in-Path-2
-slice_bounds-augment-end-in-Path-2 c = simp length-take (omega (arith, (found (goal.at.slice_bounds-augment-end-in-Path-2 c).In-Path).few))
-
-pub augment-requires-clause-heads_len : goal.augment-requires-clause-heads_len
-augment-requires-clause-heads_len c = as_long c.requires.paired_fits c.fill_table-arcs.ensures
-
-pub augment-requires-clause-rotates : goal.augment-requires-clause-rotates
-augment-requires-clause-rotates c = path_rotates c.requires.paired_fits c.fill_table-arcs.ensures (found (goal.at.augment-requires-clause-rotates c).In-Path)
-
-pub returns-in-Path : goal.returns-in-Path
-returns-in-Path c =
-    path_stepped c.requires.paired_fits c.fill_table-arcs.ensures (found (goal.at.returns-in-Path c).In-Path) c.augment.ensures
-
-pub returns-in-NoPath : goal.returns-in-NoPath
-returns-in-NoPath c =
-    none_stepped c.requires.paired_fits c.fill_table-arcs.ensures _ _ _ c.in-NoPath.is c.path_or_reached-answer.ensures
+pub returns-in-None : goal.returns-in-None
+returns-in-None c = none_stepped c.args.stock.now.is_table c.requires.paired_fits c.fill_table-count.ensures c.args.reached.now c.in-None.ensures

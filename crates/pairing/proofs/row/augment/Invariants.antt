@@ -1,11 +1,9 @@
 -- Rotation by rotation: the rotations done and those left are those of the path.
-use Prim.Native.Nat.{◌+◌, ◌-◌, ◌≤◌}
-use lib.ListN.{length}
+use Rattle.std.proofs.Common.{◌≡◌}
+use Rattle.std.specs.Slice.Iter.{chunks_exact_rest, chunks_exact_size}
 use Rattle.pairing.specs.Row.{Following}
 use Rattle.pairing.proofs.row.augment.Given as goal
 
-abbrev pub invariant-loop-i : goal.invariant-loop-i
-invariant-loop-i l = (l.i ≤ length l.path + 1) × Following l.tails l.heads l.path l.initial.row l.i l.row
-
-abbrev pub decreases-loop-i : goal.decreases-loop-i
-decreases-loop-i l = length l.path + 1 - l.i
+abbrev pub invariant-loop-turn : goal.invariant-loop-turn
+invariant-loop-turn l =
+    (chunks_exact_size l.turn-iterator ≡ 2) × Following l.arcs l.path l.initial.row (chunks_exact_rest l.turn-iterator) l.row

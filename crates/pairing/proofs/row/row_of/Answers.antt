@@ -1,5 +1,29 @@
--- No pair lit, and then each.
+-- Each camera is its own partner, and then the pairs that the iterator has taken from the end are lit.
+use Rattle.std.proofs.Common.{◌∙◌, ◌<◌, length, arith, length-set}
+use Rattle.pairing.proofs.RowPairs.{lit_start, lit_named, lit_next}
 use Rattle.pairing.proofs.row.row_of.Goals as goal
+use Rattle.pairing.proofs.row.row_of.Goals.{In-Some}
 
-pub light_pairs-requires : goal.light_pairs-requires
-light_pairs-requires c = record { pair_table = rw c.clear_row.auto.row c.requires.pair_table; row_value = c.clear_row.ensures }
+-- the pair at hand is of two cameras
+named : (c : In-Some) → let l = c.loop-pair in let x = c.in-Some.pair.now in (x.first < length l.row) × (x.second < length l.row)
+named c =
+    let T = c.args.stock.now.is_table in
+    let L = c.loop-pair.invariant in
+    let long = L.long in
+    let same = c.loop-k.auto.row in
+    let low = lit_named T L _ c.in-Some.pair.now c.in-Some.ensures.steps in
+    (omega (arith, c.requires), omega (arith, c.requires))
+
+pub loop-pair-init : goal.loop-pair-init
+loop-pair-init c = rw (c.into_iter-pair-iterator.ensures.into_iter_gives, c.rev-pair-items.ensures.source, c.iter.ensures.rest) (lit_start (λ k h. c.loop-k.invariant k (omega arith)))
+
+pub bounds-row-from : goal.bounds-row-from
+bounds-row-from c = omega (arith, c.from.ensures, named (goal.at.bounds-row-from c).In-Some)
+
+pub bounds-row-from-in-loop-pair : goal.bounds-row-from-in-loop-pair
+bounds-row-from-in-loop-pair c = rw length-set (omega (arith, c.from-in-loop-pair.ensures, named (goal.at.bounds-row-from-in-loop-pair c).In-Some))
+
+pub loop-pair-preserved : goal.loop-pair-preserved
+loop-pair-preserved c =
+    rw (c.from.ensures, c.from-in-loop-pair.ensures)
+    (lit_next c.args.stock.now.is_table c.loop-pair.invariant (c.loop-k.auto.row ∙ c.requires) _ c.in-Some.pair.now c.in-Some.ensures.steps)

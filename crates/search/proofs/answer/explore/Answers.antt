@@ -1,36 +1,19 @@
--- The fronts of the local tables are lent.
-use mathlib.Core.Path.{sym}
-use lib.Seq.{length-take-le}
-use Rattle.search.proofs.Answers.{front_long, fronts_blank}
-use borrow.Author.Rules.{rules}
+-- The fronts of the local tables are lent. The source's mate is reached and the path restored, or the labels show that there is no path.
+use Rattle.std.proofs.Common.{refl, rules}
+use Rattle.search.proofs.Answers.{fronts_blank, restorable, path_written, exhausted}
 use Rattle.search.proofs.answer.explore.Goals as goal
 
-pub slice_bounds-answer_in-end : goal.slice_bounds-answer_in-end
-slice_bounds-answer_in-end c = sym (length-take-le _ _ (search rules))
+pub search-found-requires : goal.search-found-requires
+search-found-requires g c = fronts_blank c.args.graph.now.pairs c.args.graph.now.is_table.pairs_few
 
-pub slice_bounds-answer_in-end-2 : goal.slice_bounds-answer_in-end-2
-slice_bounds-answer_in-end-2 c = sym (length-take-le _ _ (search rules))
+pub restore-requires : goal.restore-requires
+restore-requires g c = restorable c.search-found.ensures c.if-found.true c.mate_of-goal.ensures c.requires.path_len
 
-pub slice_bounds-answer_in-end-3 : goal.slice_bounds-answer_in-end-3
-slice_bounds-answer_in-end-3 c = sym (length-take-le _ _ (search rules))
+pub reason-requires : goal.reason-requires
+reason-requires g c = c.requires.reason _ (exhausted c.search-found.ensures c.if-found.false) _ refl
 
-pub slice_bounds-answer_in-end-4 : goal.slice_bounds-answer_in-end-4
-slice_bounds-answer_in-end-4 c = sym (length-take-le _ _ (search rules))
-
-pub slice_bounds-answer_in-end-5 : goal.slice_bounds-answer_in-end-5
-slice_bounds-answer_in-end-5 c = sym (length-take-le _ _ (search rules))
-
-pub answer_in-requires : goal.answer_in-requires
-answer_in-requires c =
-    let pre = c.requires in
-    let few = pre.arc_table.pairs_few in
-    let e = front_long c.args.pairs 128 few in
-    record {
-      arc_table = rw e pre.arc_table;
-      blank = rw e (fronts_blank c.args.pairs few);
-      class_len = rw e pre.class_len;
-      base_in_bounds = rw e pre.pairs_in_bounds;
-    }
+pub returns-then-found : goal.returns-then-found
+returns-then-found g c = (path_written c.search-found.ensures c.if-found.true c.mate_of-goal.ensures c.restore.ensures, refl)
 
 pub returns : goal.returns
-returns c = rw (front_long _ 128 c.requires.arc_table.pairs_few) at c.answer_in.ensures
+returns g c = let B = exhausted c.search-found.ensures c.if-found.false in search rules

@@ -1,12 +1,6 @@
--- The flags of the nodes before v are written.
-use Prim.Native.Nat.{◌≤◌, ◌-◌}
-use lib.ListN.{length}
-use Rattle.counting.specs.Loops.{Mapped}
-use Rattle.search.specs.Answer.{flags_by}
+-- The flags of the nodes before v are told.
+use Rattle.std.proofs.Common.{◌≡◌, ℕ, ◌<◌, ltb, false, get_or}
 use Rattle.search.proofs.answer.tell_reached.Given as goal
 
 abbrev pub invariant-loop-v : goal.invariant-loop-v
-invariant-loop-v l = (l.v ≤ length l.initial.reached) × Mapped (flags_by l.birth) l.initial.reached l.reached l.v
-
-abbrev pub decreases-loop-v : goal.decreases-loop-v
-decreases-loop-v l = length l.initial.reached - l.v
+invariant-loop-v l = (u : ℕ) → u < l.v → get_or l.reached u false ≡ ltb 0 (get_or l.labels.birth.now u 0)

@@ -1,49 +1,49 @@
 use native.Mathlib.Omega.{arith}
-use Rattle.search.specs.Tables.{labels}
+use Rattle.arcs.specs.Lent.{graph_of}
+use Rattle.search.specs.Lent.{labels_of}
 use Rattle.search.proofs.Roots.{RootReads, root_ascent_start, root_reads, root_ascent_next, root_ascent_end}
 use Rattle.search.proofs.classes.root_of.Goals as goal
 use Rattle.search.proofs.classes.root_of.Goals.{At-loop-v}
 
--- in the graph that the caller has
-reads : (c : At-loop-v) →
-    let a = c.args in RootReads a.tails.now (labels a.birth.now a.via.now a.base.now) c.loop-v.b
-reads c = let pre = c.requires in root_reads (c.loop-v.invariant pre.0 pre.1.0 pre.1.1 pre.1.2)
+reads : (c : At-loop-v) → let a = c.args in RootReads (graph_of a.graph.now) (labels_of a.labels.now) c.loop-v.b
+reads c = root_reads c.loop-v.invariant
 
 pub loop-v-init : goal.loop-v-init
-loop-v-init c hs n s X = root_ascent_start X
+loop-v-init c = root_ascent_start c.requires
 
-pub offset_bounds-via-b : goal.offset_bounds-via-b
-offset_bounds-via-b c = let R = reads (goal.at.offset_bounds-via-b c).At-loop-v in omega arith
+pub offset_bounds-labels-b : goal.offset_bounds-labels-b
+offset_bounds-labels-b c = let R = reads (goal.at.offset_bounds-labels-b c).At-loop-v in omega arith
 
-pub bounds-via-b : goal.bounds-via-b
-bounds-via-b c = (reads (goal.at.bounds-via-b c).At-loop-v).in_vias
+pub bounds-labels-b : goal.bounds-labels-b
+bounds-labels-b c = (reads (goal.at.bounds-labels-b c).At-loop-v).in_vias
 
-pub bounds-tails-e : goal.bounds-tails-e
-bounds-tails-e c = (reads (goal.at.bounds-tails-e c).At-loop-v).is_arc
+pub bounds-graph-e : goal.bounds-graph-e
+bounds-graph-e c = (reads (goal.at.bounds-graph-e c).At-loop-v).is_arc
 
-pub offset_bounds-birth-outside : goal.offset_bounds-birth-outside
-offset_bounds-birth-outside c =
-    let R = reads (goal.at.offset_bounds-birth-outside c).At-loop-v in
-    rw (c.mate_of-outside.ensures, c.wide-x.ensures.0) (omega arith)
+pub offset_bounds-graph-e : goal.offset_bounds-graph-e
+offset_bounds-graph-e c = let R = reads (goal.at.offset_bounds-graph-e c).At-loop-v in omega (arith, R.small)
 
-pub bounds-birth-outside : goal.bounds-birth-outside
-bounds-birth-outside c =
-    rw (c.mate_of-outside.ensures, c.wide-x.ensures.0) (reads (goal.at.bounds-birth-outside c).At-loop-v).in_births
+pub mate_of-outside-requires : goal.mate_of-outside-requires
+mate_of-outside-requires c = let R = reads (goal.at.mate_of-outside-requires c).At-loop-v in rw c.from-x.ensures (omega (arith, R.tail_small))
 
-pub returns-then-birth-outside-eq0 : goal.returns-then-birth-outside-eq0
-returns-then-birth-outside-eq0 c hs n s X =
-    let A = c.loop-v.invariant hs n s X in
-    root_ascent_end A (rw (c.mate_of-outside.ensures, c.wide-x.ensures.0) at c.if-birth-outside-eq0.true)
+pub offset_bounds-labels-outside : goal.offset_bounds-labels-outside
+offset_bounds-labels-outside c =
+    let R = reads (goal.at.offset_bounds-labels-outside c).At-loop-v in
+    rw (c.mate_of-outside.ensures, c.from-x.ensures) (omega arith)
 
-pub bounds-base-x : goal.bounds-base-x
-bounds-base-x c = rw c.wide-x.ensures.0 (reads (goal.at.bounds-base-x c).At-loop-v).in_bases
+pub bounds-labels-outside : goal.bounds-labels-outside
+bounds-labels-outside c =
+    rw (c.mate_of-outside.ensures, c.from-x.ensures) (reads (goal.at.bounds-labels-outside c).At-loop-v).in_births
+
+pub returns-then-labels-outside-eq0 : goal.returns-then-labels-outside-eq0
+returns-then-labels-outside-eq0 c =
+    root_ascent_end c.loop-v.invariant (rw (c.mate_of-outside.ensures, c.from-x.ensures) at c.if-labels-outside-eq0.true)
 
 pub loop-v-smaller : goal.loop-v-smaller
-loop-v-smaller c = rw c.wide-x.ensures.0 (reads (goal.at.loop-v-smaller c).At-loop-v).falls
+loop-v-smaller c = rw c.from-x.ensures (reads (goal.at.loop-v-smaller c).At-loop-v).falls
 
 pub loop-v-preserved : goal.loop-v-preserved
-loop-v-preserved c hs n s X =
-    let A = c.loop-v.invariant hs n s X in
-    let ex = c.wide-x.ensures.0 in
+loop-v-preserved c =
+    let ex = c.from-x.ensures in
     let em = c.mate_of-outside.ensures in
-    rw ex (root_ascent_next A (rw (em, ex) at c.if-birth-outside-eq0.false))
+    rw ex (root_ascent_next c.loop-v.invariant (rw (em, ex) at c.if-labels-outside-eq0.false))

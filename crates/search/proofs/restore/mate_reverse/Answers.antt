@@ -1,24 +1,21 @@
-use Prim.Native.Nat.{◌-◌}
-use native.Mathlib.Omega.{arith}
-use lib.ListN.{length-set}
-use Rattle.search.proofs.Reverses.{reversing_start, reversing_next, reversing_end, reversing_arc}
+use Rattle.std.proofs.Common.{get_or, arith, append-nil, map}
+use Rattle.std.proofs.lemmas.List.{get_or_default, take_all, drop_all}
+use Rattle.std.proofs.lemmas.List.Edits.{map_over_more}
+use Rattle.skew.specs.Graph.{mate}
+use Rattle.search.proofs.Reverses.{reverse_map_is}
 use Rattle.search.proofs.restore.mate_reverse.Goals as goal
 
-pub loop-a-init : goal.loop-a-init
-loop-a-init c = reversing_start _ _ _ c.requires.from_le_to.0
-
-pub mate_of-x-requires : goal.mate_of-x-requires
-mate_of-x-requires c = reversing_arc c.loop-a.invariant c.requires.by_index c.loop-a.a (omega arith) c.loop-a-test.true
-
-pub mate_of-y-requires : goal.mate_of-y-requires
-mate_of-y-requires c = reversing_arc c.loop-a.invariant c.requires.by_index (c.loop-a.b - 1) (omega arith) (omega arith)
-
-pub bounds-arcs-b-in-loop-a : goal.bounds-arcs-b-in-loop-a
-bounds-arcs-b-in-loop-a c = simp length-set (omega arith)
-
-pub loop-a-preserved : goal.loop-a-preserved
-loop-a-preserved c =
-    reversing_next c.loop-a.invariant c.loop-a-test.true c.requires.from_le_to.1 c.mate_of-x.ensures c.mate_of-y.ensures
+pub loop-arc-preserved : goal.loop-arc-preserved
+loop-arc-preserved c =
+    let w = c.loop-arc in
+    rw c.mate_of.ensures
+    (map_over_more mate c.args.part.now w.part w.arc-index (get_or w.part w.arc-index 0) c.loop-arc-test.true w.invariant
+    (get_or_default w.part w.arc-index 0 (get_or w.part w.arc-index 0) (omega arith)))
 
 pub returns : goal.returns
-returns c = reversing_end c.loop-a.invariant c.loop-a-test.false
+returns c =
+    let w = c.loop-arc in
+    let xs = c.args.part.now in
+    let all = c.loop-arc-test.false in
+    rw (c.reverse.ensures.after, w.invariant, take_all w.arc-index xs all, drop_all w.arc-index xs all, append-nil (map mate xs))
+    (reverse_map_is mate xs)

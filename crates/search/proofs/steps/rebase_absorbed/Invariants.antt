@@ -1,12 +1,7 @@
--- The bases of the mate pairs before k are mapped.
-use Prim.Native.Nat.{◌≤◌, ◌-◌}
-use lib.ListN.{length}
+-- The bases gone through are mapped.
 use Rattle.counting.specs.Loops.{Mapped}
 use Rattle.search.specs.Steps.{bases_after}
 use Rattle.search.proofs.steps.rebase_absorbed.Given as goal
 
-abbrev pub invariant-loop-k : goal.invariant-loop-k
-invariant-loop-k l = (l.k ≤ length l.initial.base) × Mapped (bases_after l.mark l.to) l.initial.base l.base l.k
-
-abbrev pub decreases-loop-k : goal.decreases-loop-k
-decreases-loop-k l = length l.initial.base - l.k
+abbrev pub invariant-loop-b : goal.invariant-loop-b
+invariant-loop-b l = Mapped (bases_after l.mark l.to) l.initial.base l.base l.b-index

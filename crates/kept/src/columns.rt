@@ -1,0 +1,43 @@
+// Pairs of cameras as they stand in the block: their first cameras in a column of bytes, and their second ones in another behind it (specs/Columns).
+//   Columns         where two columns begin, and how many bytes each has
+ghost use Rattle.std.specs.Prelude.{◌≡◌, ◌+◌, ◌*◌, ◌≤◌, length};
+ghost use Rattle.kept.specs.Block.{block_size};
+ghost use Rattle.kept.specs.Columns.{column_pairs, ColumnsPut, ColumnsRead};
+
+use crate::STATE;
+use counting::Pair;
+use files::look_up::pair_up;
+
+#[derive(Clone, Copy)]
+pub struct Columns {
+    pub at: usize,
+    pub most: usize,
+    ghost inside: { at + 2 * most ≤ block_size },
+}
+
+impl Columns {
+    // The first so many pairs, at the front of the slice: how many they are.
+    pub fn read(self, state: &[u8; STATE], count: usize, pairs: &mut [Pair]) -> usize
+        requires few { count ≤ self.most }
+        requires room { count ≤ length pairs.old }
+        ensures { ColumnsRead (column_pairs self.at self.most count state.now) pairs.old pairs.new result }
+    {
+        let others = self.at + self.most;
+        pair_up(
+            &state[self.at..self.at + count],
+            &state[others..others + count],
+            pairs,
+        )
+    }
+
+    pub fn put(self, state: &mut [u8; STATE], pairs: &[Pair])
+        requires { length pairs.now ≤ self.most }
+        ensures { ColumnsPut state.old self.at self.most pairs.now state.new }
+    {
+        // invariant: proofs/PairColumns Putting
+        for (i, pair) in pairs.iter().enumerate() {
+            state[self.at + i] = pair.first;
+            state[self.at + self.most + i] = pair.second;
+        }
+    }
+}

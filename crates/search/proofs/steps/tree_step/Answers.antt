@@ -1,1 +1,0 @@
--- Three stores at the head.
