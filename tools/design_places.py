@@ -48,7 +48,7 @@ PATTERNS = [
     (1, "kinds as numbers", r"^pub const (?!\w*_MOST)[A-Z_]+: usize = 0x[0-9A-F]{2};$|\bkind: usize|\bkinds::[A-Z_]{3}"),
     (1, "flags as numbers", r"\b(flags|seen|used|reached|mark)(: &(mut )?\[(u8|usize)\]| = \[0u(8|size))|0 < (flags|fit|outer|inner)|(seen|used)\[\w+\] == 1|\b(fit|outer|inner): u8|\bmark == 1"),
     (1, "a number in place of none", r"\b(found|n|early) [!=]= 0\b|let c = number|find\(.*\) == 0|birth\w*(\[\w+\])? [!=]= 0\b|0 < birth"),
-    (3, "loops that are no `for`", r"^\s*('\w+: )?(while|loop)\b"),
+    (3, "loops that are no `for`", r"^\s*('\w+: |let \w+ = )?(while|loop)\b"),
     (4, "casts", r" as (u8|u16|u32|u64|usize)\b"),
     (4, "written by hand: equality, order, copies, conversions", r"\bfn (wide|narrow|comes_before|at_most|shorter|bit|raise|begins_with|digit_at|put_text|clear|most_said|with_digit)\b"),
     (5, "clauses with a fact on what is lent", r"\b(ArcTable|StockTable|Holds|PairTable|FitTable|PairedFits|Covers|ArcsLent|PathLent)\b.*\}$"),

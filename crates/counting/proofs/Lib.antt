@@ -12,7 +12,8 @@
 --   Stores         runs of stores into a list
 --   Parts          parts of a list, also after stores into it
 --   Zips           two lists, pair by pair
---   Loops          a list gone through in a loop: judged, mapped in place, stored part by part
+--   Loops          a list gone through in a loop: what stands at a place
+--   SliceVecs      a list in a lent slice, extended by one list after another
 pub mod Booleans
 pub mod Membership
 pub mod NoRepeats
@@ -27,3 +28,4 @@ pub mod Stores
 pub mod Parts
 pub mod Zips
 pub mod Loops
+pub mod SliceVecs

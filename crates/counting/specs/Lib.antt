@@ -4,8 +4,10 @@
 --   Pairs      a pair of numbers
 --   Sums       sums over the numbers below a bound
 --   Loops      a list gone through in a loop
+--   SliceVecs  a list in a lent slice, which grows from the front
 pub mod Tests
 pub mod Lists
 pub mod Pairs
 pub mod Sums
 pub mod Loops
+pub mod SliceVecs

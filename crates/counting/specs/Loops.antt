@@ -1,9 +1,7 @@
 -- A list gone through in a loop, from its front to its end: what holds on the way.
 --   Next xs i x                             x stands at place i of xs, and what follows behind it
 --   Mapped f was now i                      the elements before place i are as f says, by their places and what they were; the others are as they were
---   Storing was at whole now next left      part of the whole is stored from `at` on: with what is left stored from `next` on, all of it is
 use Rattle.std.specs.Prelude.{◌≡◌, List, ◌∷◌, ℕ, ◌+◌, ◌≤◌, ◌<◌, length, get_or, drop}
-use Rattle.std.proofs.lemmas.List.Edits.{sets}
 
 pub record Next {A : Type 0} (xs : List A) (i : ℕ) (x : A) : Type 0 where
   pub is : drop i xs ≡ x ∷ drop (i + 1) xs
@@ -12,8 +10,3 @@ pub record Mapped (f : ℕ → ℕ → ℕ) (was now : List ℕ) (i : ℕ) : Typ
   pub long : length now ≡ length was
   pub done : (u : ℕ) → u < i → get_or now u 0 ≡ f u (get_or was u 0)
   pub rest : (u : ℕ) → i ≤ u → get_or now u 0 ≡ get_or was u 0
-
-pub record Storing (was : List ℕ) (at : ℕ) (whole now : List ℕ) (next : ℕ) (left : List ℕ) : Type 0 where
-  pub rest : sets now next left ≡ sets was at whole
-  pub place : next + length left ≡ at + length whole
-  pub long : length now ≡ length was

@@ -7,7 +7,8 @@
 --   zip_pairs xs ys     two lists, pair by pair, as far as both go
 --   pairs_of n xs ys    the first n elements of both
 --   pair_named n x      both numbers of a pair are below n
-use Rattle.std.specs.Prelude.{Bool, ◌&&◌, List, [], ◌∷◌, ℕ, ltb, take}
+--   number_of x         both numbers as one, the first the higher byte of it
+use Rattle.std.specs.Prelude.{Bool, ◌&&◌, List, [], ◌∷◌, ℕ, ◌+◌, ◌*◌, ltb, take}
 use Rattle.counting.specs.declared.Pair.{Pair}
 
 abbrev pub pair : ℕ → ℕ → Pair
@@ -38,3 +39,6 @@ pairs_of n xs ys = zip_pairs (take n xs) (take n ys)
 
 abbrev pub pair_named : (bound : ℕ) → Pair → Bool
 pair_named n x = ltb x.first n && ltb x.second n
+
+abbrev pub number_of : Pair → ℕ
+number_of x = 256 * x.first + x.second

@@ -1,44 +1,39 @@
-// Theory that the other crates' proofs count with, stated once over finite lists; and pairs of numbers, as files hold them.
-//   Pair        two numbers of a byte each
-//   NO_PAIR     what stands in an array of pairs before anything is put into it
-//   FromPair    what a pair is stored as: itself, or a number of its two bytes
+// Theory that the other crates' proofs count with, stated once over finite lists; and what all crates keep pairs and lists in.
+//   Pair         two numbers of a byte each
+//   slice_vec    a lent slice that is filled from the front
 #![tactic(auto)]
 
-ghost use Rattle.std.specs.Prelude.{◌≡◌, ◌+◌, ◌*◌};
+pub mod slice_vec;
+
+ghost use Rattle.std.specs.Prelude.{◌≡◌, ◌<◌};
 
 // A fit's two cameras, or the two numbers of a body frame. Pairs are ordered by the first number, then by the second.
-#[derive(Clone, Copy, PartialEq, Eq, PartialOrd, Ord)]
+#[derive(Clone, Copy, Default, PartialEq, Eq, PartialOrd, Ord)]
 pub struct Pair {
     pub first: u8,
     pub second: u8,
 }
 
-pub const NO_PAIR: Pair = Pair {
-    first: 0,
-    second: 0,
-};
-
-pub trait FromPair: Copy {
-    ghost use Rattle.counting.specs.declared.Pair.{Pair};
-
-    ghost of_pair: { Pair → Self };
-
-    fn from_pair(pair: Pair) -> Self
-        ensures { result ≡ of_pair pair };
-}
-
-impl FromPair for Pair {
-    ghost of_pair = { λ x. x };
-
-    fn from_pair(pair: Pair) -> Pair {
-        pair
+impl Pair {
+    // Both numbers, as places in a table.
+    // kept beside skew::Arc::ends: of other fields; a trait for both would be longer than they are
+    pub fn numbers(self) -> (usize, usize)
+        ensures first { result.0 ≡ self.first }
+        ensures second { result.1 ≡ self.second }
+        ensures bytes { (result.0 < 256) × (result.1 < 256) }
+    {
+        (usize::from(self.first), usize::from(self.second))
     }
 }
 
-impl FromPair for u16 {
-    ghost of_pair = { λ x. 256 * x.first + x.second };
+// The two bytes as one number, the first the higher.
+impl From<Pair> for u16 {
+    ghost use Rattle.std.specs.Prelude.{◌≡◌};
+    ghost use Rattle.counting.specs.Pairs.{number_of};
 
-    fn from_pair(pair: Pair) -> u16 {
-        256 * u16::from(pair.first) + u16::from(pair.second)
+    ghost from_gives = { λ pair number. number ≡ number_of pair };
+
+    fn from(pair: Pair) -> u16 {
+        u16::from_be_bytes([pair.first, pair.second])
     }
 }

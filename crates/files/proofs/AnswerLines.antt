@@ -1,45 +1,44 @@
--- Lines of an answer, seven bytes for each value, written one behind the other.
---   writing_next, writing_end                          one more line is written; all are
+-- Lines of an answer, seven bytes for each value, written one behind the other into a lent slice.
+--   line_room                                          past a line there is room for those left, and for the end frame
+--   lines_next, lines_end                              one more line is written; all are
 --   class_lines_lem, mark_lines_lem                    document 03's lines are such lines: a barrier's and a sheet's,
 --   path_lines_lem, pair_lines_lem                     a path's, and those of a plan and of a budget's answer
 --   plan_size, budget_size, sheet_size                 how many bytes a plan, a budget's answer and a standing sheet take
---   half_written                                       a plan or a standing sheet written: a header of four digits, lines and an end frame
---   front_written, first_written                       a text written at the front, as document 03 has it; the same of three parts
-use mathlib.Core.Path.{◌≡◌, refl, ap}
-use mathlib.Core.List.{List, [], ◌∷◌, ◌++◌}
-use Prim.Native.Nat.{ℕ, suc, ◌+◌, ◌*◌, ◌≤◌, ◌<◌}
+--   header_then                                        a header and what stands behind it are a text
+--   first_size, first_written                          how long a text at the front of the slice is; and so what stands in it, as document 03 has it
+use mathlib.Core.Path.{◌≡◌, refl, sym, ap, ◌∙◌}
+use mathlib.Core.List.{List, [], ◌∷◌, ◌++◌, append_assoc}
+use Prim.Native.Nat.{ℕ, suc, ◌+◌, ◌*◌, ◌-◌, ◌≤◌, ◌<◌}
 use native.Mathlib.Omega.{arith}
 use native.Mathlib.Numerals.{add-one}
 use lib.ListN.{length, get_or, drop, length-append, drop_of_length-le}
+use Rattle.std.specs.Borrow.{MutBor}
 use Rattle.formats.specs.Kinds.{class_kind, mark_kind, pair_kind, step_kind}
+use Rattle.counting.specs.SliceVecs.{Begun, Extended, Extending}
 use Rattle.counting.specs.declared.Pair.{Pair}
-use Rattle.counting.proofs.Loops.{next_in, storing_next}
+use Rattle.counting.specs.declared.slice_vec.SliceVec.{SliceVec}
+use Rattle.counting.proofs.Loops.{next_in}
+use Rattle.counting.proofs.SliceVecs.{extended_long, extended_then, extending_next, extending_end}
 use Rattle.frames.specs.Frames.{frame6, frame_of4}
-use Rattle.frames.specs.Writes.{Written}
-use Rattle.frames.proofs.Writes.{written_then, written_over, text_end, hex_bytes_length}
+use Rattle.frames.proofs.Writes.{text_whole, hex_bytes_length}
 use Rattle.files.specs.StockFile.{mark_lines, sheet_with, plan_lines, plan_text, budget_text}
 use Rattle.files.specs.CertificateFile.{path_lines, class_lines}
-use Rattle.files.specs.Answers.{each_line, Writing, LinesWritten, WrittenFirst}
+use Rattle.files.specs.Answers.{each_line, WrittenFirst}
 
 -- LINE BY LINE
-module _ {A : Type 0} {f : ℕ → A → List ℕ} {xs : List A} {before : List ℕ} {at : ℕ} {out : List ℕ} {next i : ℕ} (w : Writing f xs before at out next i) where
-  pub writing_next : (d : A) {after : List ℕ} {end : ℕ} → i < length xs → Written out next 7 (f i (get_or xs i d)) after end →
-      Writing f xs before at after end (i + 1)
-  unfolding each_line
-  writing_next d h v =
-      let line = f i (get_or xs i d) in
-      let e : each_line f i (drop i xs) ≡ line ++ each_line f (i + 1) (drop (i + 1) xs) = rw ((next_in xs d i h).is, add-one) in
-      record {
-        within = omega arith;
-        place = omega (arith, w.place, v.place);
-        stores = storing_next w.stores line e v.bytes (omega (arith, v.place, v.full));
-      }
+pub line_room : {v w : SliceVec ℕ} {n i : ℕ} (k a b : ℕ) → v.len + (7 * (n - i) + 7) ≤ length v.slice.now → i < n → Extended v (frame6 k a b) w →
+    w.len + (7 * (n - (i + 1)) + 7) ≤ length w.slice.now
+line_room k a b room h e = omega (arith, extended_long e, simp (length-append, hex_bytes_length) at e.len_is)
 
-  pub writing_end : length xs ≤ i → LinesWritten f xs before at out next
+module _ {A : Type 0} {v w : SliceVec ℕ} (f : ℕ → A → List ℕ) (xs : List A) {i : ℕ} (E : Extending v (each_line f 0 xs) w (each_line f i (drop i xs))) where
+  pub lines_next : {x : A} {w' : SliceVec ℕ} → i < length xs → x ≡ get_or xs i x → Extended w (f i x) w' →
+      Extending v (each_line f 0 xs) w' (each_line f (i + 1) (drop (i + 1) xs))
   unfolding each_line
-  writing_end k =
-      let e : drop i xs ≡ [] = drop_of_length-le xs k in
-      text_end w.stores (rw e) (omega (arith, w.within, w.place, rw e at w.stores.place))
+  lines_next {x} h is e = extending_next E (f i x) (rw ((next_in xs x i h).is, add-one, ← is)) e
+
+  pub lines_end : length xs ≤ i → Extended v (each_line f 0 xs) w
+  unfolding each_line
+  lines_end h = extending_end E (rw (drop_of_length-le xs h))
 
 -- DOCUMENT 03'S LINES
 pub class_lines_lem : (v : ℕ) (cs : List ℕ) → each_line (frame6 class_kind) v cs ≡ class_lines v cs
@@ -82,14 +81,17 @@ mark_lines_length u (m ∷ ms) = simp (length-append, hex_bytes_length) (omega (
 pub sheet_size : (pairs : ℕ) (ms : List ℕ) → length (sheet_with pairs ms) ≡ 12 + 7 * length ms
 sheet_size k ms = simp (length-append, hex_bytes_length) (omega (arith, mark_lines_length 0 ms))
 
--- THREE PARTS: header, body and end frame
-pub half_written : {l₀ l₁ l₂ l₃ x y z : List ℕ} {at k p q r : ℕ} → Written l₀ at 5 x l₁ p → Written l₁ p k y l₂ q → Written l₂ q 7 z l₃ r →
-    Written l₀ at (12 + k) (x ++ y ++ z) l₃ r
-half_written {k = k} u v w = let e : 5 + k + 7 ≡ 12 + k = omega arith in rw e at (written_then (written_then u v) w)
+-- A TEXT: its header, its lines and its end frame
+pub header_then : {u v w : SliceVec ℕ} {head : List ℕ} (lines end : List ℕ) → Extended u head v → Extended v (lines ++ end) w →
+    Extended u (head ++ lines ++ end) w
+header_then {head = head} lines end x y = rw (append_assoc head lines end) (extended_then x y)
 
-pub front_written : {before text after : List ℕ} {size r : ℕ} → Written before 0 size text after r → size ≤ length before → WrittenFirst text before after r
-front_written w h = let o = written_over w h in record { bytes = o.0; told = o.1 }
+-- AT THE FRONT: who lent the slice finds there what the list holds at the end
+pub first_size : {slice : MutBor (List ℕ)} {v w : SliceVec ℕ} {text : List ℕ} → Begun slice v → Extended v text w → w.len ≡ length text
+first_size b x = omega (arith, b.empty, x.len_is)
 
-pub first_written : {l₀ l₁ l₂ l₃ x y z : List ℕ} {a b c p q r : ℕ} → Written l₀ 0 a x l₁ p → Written l₁ p b y l₂ q → Written l₂ q c z l₃ r →
-    a + b + c ≤ length l₀ → WrittenFirst (x ++ y ++ z) l₀ l₃ r
-first_written u v w h = front_written (written_then (written_then u v) w) h
+pub first_written : {slice : MutBor (List ℕ)} {v w : SliceVec ℕ} {text after : List ℕ} → Begun slice v → Extended v text w →
+    (slice.ghost_name ≡ w.slice.ghost_name → after ≡ w.slice.now) → WrittenFirst text slice.now after w.len
+first_written {slice} {v} {w} {text} b x same =
+    let long : length text ≤ length slice.now = omega (arith, w.fits, extended_long x, ap length b.slice_is, first_size b x) in
+    record { bytes = same (sym (x.same ∙ b.same)) ∙ (text_whole b x long).0; told = first_size b x }

@@ -4,10 +4,8 @@
 --   basic_asked                                             and document 03's own for a graph, without 16
 --   lit_asked                                               past 11, a stock's questions of its pairs are those of the lit pairs against the fits
 --   graph_refusal, stock_refusal                            a refusal is 0 or one of the list's numbers: what holds of those holds of it
---   unless_no, unless_yes                                   one question's refusal, and that it was answered yes
-use mathlib.Core.Path.{◌≡◌, refl, sym}
-use mathlib.Core.Logic.{◌≢◌}
-use mathlib.Core.Bool.{Bool, true, false}
+use mathlib.Core.Path.{◌≡◌, refl}
+use mathlib.Core.Bool.{Bool, true}
 use mathlib.Core.List.{List, [], ◌∷◌}
 use Prim.Native.Nat.{ℕ}
 use lib.Dec.{eqb, leb, ltb}
@@ -17,7 +15,7 @@ use Rattle.formats.specs.Limits.{fits_most, steps_most}
 use Rattle.counting.specs.Tests.{all}
 use Rattle.counting.specs.Pairs.{pair_named}
 use Rattle.counting.specs.declared.Pair.{Pair}
-use Rattle.frames.specs.Frames.{unless, body_lines, pairs_in, graph_form, stock_form, path_form, barrier_form}
+use Rattle.frames.specs.Frames.{body_lines, pairs_in, graph_form, stock_form, path_form, barrier_form}
 use Rattle.frames.specs.Questions.{ask, first_no, numbers_are}
 use Rattle.frames.specs.Shape.{shape_questions}
 use Rattle.frames.proofs.Questions.{chain_first, or_first, refusal_is}
@@ -28,7 +26,7 @@ use Rattle.matching.proofs.LookUp.{all_found}
 use Rattle.files.specs.GraphFile as graph
 use Rattle.files.specs.GraphFile.{graph_in, graph_fault, basic_graph_fault, arcs_fit, arcs_questions, graph_questions, basic_arcs_questions, basic_questions}
 use Rattle.files.specs.StockFile as stock
-use Rattle.files.specs.StockFile.{stock_in, stock_fault, pairs_questions, stock_questions, lit_questions}
+use Rattle.files.specs.StockFile.{stock_in, stock_fault, lit_questions, pairs_questions, stock_questions}
 use Rattle.files.specs.CertificateFile.{path_arcs, path_fault, path_questions, names_in_order, barrier_fault, barrier_questions}
 
 pub graph_asked : (f : List ℕ) → graph_fault f ≡ first_no (graph_questions f)
@@ -46,7 +44,6 @@ stock_asked f =
     let later = ask 8 (leb (length (stock_in f).fits) fits_most) ∷ pairs_questions (stock_in f).cameras (stock_in f).fits (stock_in f).lit in
     or_first (shape_questions stock_form f (stock.header_fits f)) later refl (shape_asked stock_form f (stock.header_fits f)) (chain_first later refl)
 
--- where fits rise, the look-up finds exactly the fits
 pub lit_asked : (n : ℕ) (fs ls : List Pair) → all (pair_named n) fs ≡ true → all (pair_named n) ls ≡ true → pairs_rise fs ≡ true →
     first_no (lit_questions fs ls) ≡ first_no (pairs_questions n fs ls)
 lit_asked n fs ls p q e = rw (p, q, e, all_found fs ls e)
@@ -67,12 +64,3 @@ stock_refusal f p z h = rw (stock_asked f) (refusal_is p (stock_questions f) z h
 
 pub graph_refusal : (f : List ℕ) (p : ℕ → Bool) → p 0 ≡ true → numbers_are p (graph_questions f) ≡ true → p (graph_fault f) ≡ true
 graph_refusal f p z h = rw (graph_asked f) (refusal_is p (graph_questions f) z h)
-
--- ONE QUESTION
-pub unless_no : {n m : ℕ} (z : Bool) → n ≡ unless z m → n ≢ 0 → (z ≡ false) × (n ≡ m)
-unless_no true e h = absurd (h e)
-unless_no false e h = (refl, e)
-
-pub unless_yes : {m : ℕ} (z : Bool) → m ≢ 0 → 0 ≡ unless z m → z ≡ true
-unless_yes true h e = refl
-unless_yes false h e = absurd (h (sym e))

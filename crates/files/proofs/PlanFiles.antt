@@ -1,8 +1,9 @@
 -- The questions of a plan file, one after the other, and of a plan as it is written.
 --   plan_refused                         what is answered to a plan refused before anything is stored
---   plan_shape_lem, plan_seven           questions 2 to 7, the last also of the header's number
+--   plan_shape_lem, plan_seven           questions 2 to 7 refuse; question 7 does, of the header's number
 --   plan_long                            the header's number can be read
---   plan_room, plan_holds, plan_read     its pairs can be stored, and asked; what is answered then
+--   plan_room, plan_holds                its pairs can be stored, and asked
+--   plan_read, plan_nine                 what is answered then, and where a later question refuses
 --   plan_held                            where nothing is refused, the slice holds the file's pairs
 --   plan_few                             and there are at most 63
 --   plan_accepted                        a pairing written as a plan is refused nothing, and is the pairs that the file says
@@ -17,6 +18,8 @@ use borrow.Author.Tests.{eq-eqb, eqb-true, le-leb, lt-ltb, ltb-true}
 use lib.ListN.{length, take, length-append, length-map}
 use Rattle.formats.specs.Kinds.{pair_kind}
 use Rattle.formats.specs.Limits.{cameras_most, file_most, pairs_most, plan_pairs_most}
+use Rattle.formats.specs.Refusals.{refusal_number}
+use Rattle.formats.specs.declared.refusals.Refusal.{Refusal}
 use Rattle.counting.specs.Lists.{In}
 use Rattle.counting.specs.Pairs.{pair_named}
 use Rattle.counting.specs.declared.Pair.{Pair}
@@ -26,9 +29,9 @@ use Rattle.frames.specs.Frames.{unless, is_whole_file, lines_of, hex_from, hex_a
 use Rattle.frames.specs.Questions.{Question, ask, first_no, answered}
 use Rattle.frames.specs.Numbers.{NumberAt}
 use Rattle.frames.specs.Shape.{shape_questions, Shaped, ShapeAnswer}
-use Rattle.frames.specs.declared.shape.TheConstants.{PLAN}
+use Rattle.frames.specs.declared.layout.TheConstants.{PLAN}
 use Rattle.frames.specs.Stores.{run_at, Storable, StoredFirst, Stored}
-use Rattle.frames.proofs.Questions.{first_stop, first_go, first_none, first_both, accepted, answered_none, answered_refused}
+use Rattle.frames.proofs.Questions.{first_stop, first_go, first_none, first_both, accepted, answered_none, refusal_some, beside_refusal, was_yes}
 use Rattle.frames.proofs.HexNumbers.{hex_small}
 use Rattle.frames.proofs.HeaderFrames.{first_number}
 use Rattle.frames.proofs.ShapeFaults.{shape_asked, answer_shaped}
@@ -44,7 +47,6 @@ use Rattle.files.specs.StockFile.{plan_text}
 use Rattle.files.specs.PlanFile.{plan_pairs, pairs_told, plan_shape, pairing_questions, plan_fault}
 use Rattle.files.specs.Readers.{PlanHeld, PlanRead}
 use Rattle.files.proofs.Tables.{stored_all, all_stored, none_stored, back_stored}
-use Rattle.files.proofs.Asked.{unless_yes}
 use Rattle.files.proofs.AnswerLines.{plan_size}
 use Rattle.files.proofs.AnswerEnds.{plan_plain}
 use Rattle.files.proofs.PlanBytes.{pair_line, end_line, plan_lines_lem, plan_first, plan_body, plan_last, pairs_read_lem}
@@ -59,70 +61,80 @@ told_last f =
     (eqb (pairs_told f) (length (body_lines f)))
 
 -- THE ANSWERS
-pub plan_refused : {cameras : ℕ} {fits : List Pair} {f : List ℕ} {us : List Pair} {k : ℕ} → k ≡ first_no (plan_shape f) → k ≢ 0 → PlanRead cameras fits f us us k 0
-plan_refused {cameras} {fits} {f} {us} e h =
-    let d : first_no (plan_shape f) ≢ 0 = λ q. h (e ∙ q) in
+pub plan_refused : {cameras : ℕ} {fits : List Pair} {f : List ℕ} {us : List Pair} (e : Refusal) → refusal_number e ≡ first_no (plan_shape f) →
+    PlanRead cameras fits f us us (refusal_number e) 0
+plan_refused {cameras} {fits} {f} {us} e q =
+    let d : first_no (plan_shape f) ≢ 0 = λ z. refusal_some e (q ∙ z) in
     record {
-      says = e ∙ sym (first_stop (plan_shape f) (pairing_questions cameras fits (plan_pairs f)) d);
-      counts = sym (answered_refused (length (plan_pairs f)) h);
+      says = q ∙ sym (first_stop (plan_shape f) (pairing_questions cameras fits (plan_pairs f)) d);
+      counts = sym (beside_refusal e (length (plan_pairs f)));
       stores = none_stored (λ (zs : List Pair). zs) (plan_shape f) (plan_pairs f) us refl d;
     }
 
-module _ {f : List ℕ} {number next count : ℕ} (a : ShapeAnswer plan_form f number next count) where
-  pub plan_shape_lem : number ≢ 0 → number ≡ first_no (plan_shape f)
-  plan_shape_lem h =
-      let e = a.says ∙ shape_asked plan_form f true in
-      e ∙ sym (told_last f ∙ first_stop (shape_questions plan_form f true) (told_question f) (λ q. h (e ∙ q)))
+pub plan_shape_lem : {f : List ℕ} {next count : ℕ} (e : Refusal) → ShapeAnswer plan_form f (refusal_number e) next count → refusal_number e ≡ first_no (plan_shape f)
+plan_shape_lem {f} e a =
+    let q = a.says ∙ shape_asked plan_form f true in
+    q ∙ sym (told_last f ∙ first_stop (shape_questions plan_form f true) (told_question f) (λ z. refusal_some e (q ∙ z)))
 
-  module _ (e : number ≡ 0) where
-    plan_shaped : Shaped plan_form f next count (length (plan_pairs f))
-    plan_shaped = answer_shaped PLAN a e
+module _ {f : List ℕ} {next count : ℕ} (a : ShapeAnswer plan_form f 0 next count) where
+  plan_shaped : Shaped plan_form f next count (length (plan_pairs f))
+  plan_shaped = answer_shaped PLAN a refl
 
-    pub plan_long : 4 ≤ length f
-    plan_long = let l = plan_shaped.header in omega (arith, l.past, l.high)
+  pub plan_long : 4 ≤ length f
+  plan_long = let l = plan_shaped.header in omega (arith, l.past, l.high)
 
-    module _ {c : ℕ} (x : NumberAt f 2 2 c) where
-      told_is : pairs_told f ≡ c
-      told_is = first_number f 4 next plan_shaped.header 2 2 (omega arith) ∙ sym x.is
+  module _ {c : ℕ} (x : NumberAt f 2 2 c) where
+    told_is : pairs_told f ≡ c
+    told_is = first_number f 4 next plan_shaped.header 2 2 (omega arith) ∙ sym x.is
 
-      pub plan_seven : first_no (plan_shape f) ≡ unless (eqb c count) 7
-      plan_seven =
-          rw (← told_is, plan_shaped.counts)
-          (told_last f ∙ first_go (shape_questions plan_form f true) (told_question f) refl (sym (a.says ∙ shape_asked plan_form f true) ∙ e))
+    seven : first_no (plan_shape f) ≡ unless (eqb c count) 7
+    seven =
+        rw (← told_is, plan_shaped.counts)
+        (told_last f ∙ first_go (shape_questions plan_form f true) (told_question f) refl (sym (a.says ∙ shape_asked plan_form f true)))
 
-      module _ (fit : 0 ≡ unless (eqb c count) 7) where
-        -- two digits tell at most 255
-        few : count ≤ plan_pairs_most
-        few =
-            let h = hex_small 2 2 _ plan_shaped.header_digits in
-            let same = eqb-true c count (unless_yes (eqb c count) (λ q. omega arith) fit) in
-            omega (arith, told_is)
+    pub plan_seven : (e : Refusal) → refusal_number e ≡ unless (eqb c count) 7 → refusal_number e ≡ first_no (plan_shape f)
+    plan_seven e q = q ∙ sym seven
 
-        pub plan_room : (us : List Pair) → plan_pairs_most ≤ length us → Storable f next × (length (run_at pair_kind f next) ≤ length us)
-        plan_room us r =
-            let n = only_size plan_shaped pair_kind refl refl (λ q. omega arith) in (body_storable plan_shaped (omega arith), omega (arith, n, few))
+    module _ (fit : 0 ≡ unless (eqb c count) 7) where
+      -- two digits tell at most 255
+      few : count ≤ plan_pairs_most
+      few =
+          let h = hex_small 2 2 _ plan_shaped.header_digits in
+          let same = eqb-true c count (was_yes 7 fit refl) in
+          omega (arith, told_is)
 
-        module _ {us us' : List Pair} {m turn : ℕ} (st : Stored (λ (y : Pair). y) pair_kind f next us us' m turn) where
-          pairs_here : StoredFirst (plan_pairs f) us us'
-          pairs_here = (stored_pairs st (plan_pairs f) (only_pairs plan_shaped pair_kind refl refl (λ q. omega arith))).1
+      pub plan_room : (us : List Pair) → plan_pairs_most ≤ length us → Storable f next × (length (run_at pair_kind f next) ≤ length us)
+      plan_room us r =
+          let n = only_size plan_shaped pair_kind refl refl (λ q. omega arith) in (body_storable plan_shaped (omega arith), omega (arith, n, few))
 
-          counted : count ≡ length (plan_pairs f)
-          counted = sym (only_count plan_shaped pair_kind refl refl (λ q. omega arith))
+      module _ {us us' : List Pair} {m turn : ℕ} (st : Stored (λ (y : Pair). y) pair_kind f next us us' m turn) where
+        pairs_here : StoredFirst (plan_pairs f) us us'
+        pairs_here = (stored_pairs st (plan_pairs f) (only_pairs plan_shaped pair_kind refl refl (λ q. omega arith))).1
 
-          pub plan_holds : (count ≤ length us') × (take count us' ≡ plan_pairs f)
-          plan_holds = back_stored counted pairs_here
+        counted : count ≡ length (plan_pairs f)
+        counted = sym (only_count plan_shaped pair_kind refl refl (λ q. omega arith))
 
-          pub plan_read : {cameras : ℕ} {fits : List Pair} {k : ℕ} → k ≡ first_no (pairing_questions cameras fits (take count us')) →
-              PlanRead cameras fits f us us' k (answered k count)
-          plan_read {cameras} {fits} {k} q =
-              let none : first_no (plan_shape f) ≡ 0 = plan_seven ∙ sym fit in
-              record {
-                says =
-                    (rw plan_holds.1 at q) ∙
-                    sym (first_go (plan_shape f) (pairing_questions cameras fits (plan_pairs f)) refl none);
-                counts = ap (answered k) counted;
-                stores = all_stored (λ (zs : List Pair). zs) (plan_shape f) (plan_pairs f) none pairs_here;
-              }
+        plan_back : (count ≤ length us') × (take count us' ≡ plan_pairs f)
+        plan_back = back_stored counted pairs_here
+
+        pub plan_holds : count ≤ length us'
+        plan_holds = plan_back.0
+
+        pub plan_read : {cameras : ℕ} {fits : List Pair} {k : ℕ} → k ≡ first_no (pairing_questions cameras fits (take count us')) →
+            PlanRead cameras fits f us us' k (answered k count)
+        plan_read {cameras} {fits} {k} q =
+            let none : first_no (plan_shape f) ≡ 0 = seven ∙ sym fit in
+            record {
+              says =
+                  (rw plan_back.1 at q) ∙
+                  sym (first_go (plan_shape f) (pairing_questions cameras fits (plan_pairs f)) refl none);
+              counts = ap (answered k) counted;
+              stores = all_stored (λ (zs : List Pair). zs) (plan_shape f) (plan_pairs f) none pairs_here;
+            }
+
+        pub plan_nine : {cameras : ℕ} {fits : List Pair} (e : Refusal) → refusal_number e ≡ first_no (pairing_questions cameras fits (take count us')) →
+            PlanRead cameras fits f us us' (refusal_number e) 0
+        plan_nine e q = simp beside_refusal at (plan_read q)
 
 -- WHERE NOTHING IS REFUSED
 both_none : (n : ℕ) (fs : List Pair) (f : List ℕ) → plan_fault n fs f ≡ 0 →

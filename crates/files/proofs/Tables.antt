@@ -1,18 +1,21 @@
 -- What the questions let a reader store at the front of a slice, and what is read back of it.
 --   stored_all, all_stored, none_stored     all where no question is answered no, and else nothing
 --   back_stored                             what was stored, read back
---   classes_next, classes_end               classes stored one by one: one more is, all are
---   Pairing was firsts seconds now n us vs  n pairs are stored of two rows of numbers, of which us and vs are left
---   pairing_room, pairing_next, pairing_end there is room for one more; one more is stored; all are
-use Rattle.std.proofs.Common.{◌≡◌, refl, ◌≢◌, ◌⊎◌, inl, inr, ap, subst, sym, ◌∙◌, List, [], ◌∷◌, ℕ, min, ◌+◌, ◌≤◌, arith, add-one, ◌<◌, length, get_or, set, take, drop}
-use Rattle.std.proofs.lemmas.List.Edits.{sets}
-use lib.Seq.{length-sets, drop-cons}
+--   store_room, store_end                   stored one by one into a lent slice: there is room for one more; all are
+--   seconds_next, seconds_none              the classes of the lines left: the next line's, and those behind it; of no line
+--   zip_next, zip_none                      the pairs of the numbers left
+use Rattle.std.proofs.Common.{◌≡◌, refl, ◌≢◌, ◌⊎◌, inl, inr, ap, subst, sym, ◌∙◌, List, [], ◌∷◌, ℕ, ◌+◌, ◌≤◌, arith, ◌<◌, length, get_or, take, drop}
+use lib.Seq.{length-sets}
 use lib.ListN.{drop_of_length-le}
 use borrow.Author.Tests.{ne_eqb}
+use Rattle.std.specs.Borrow.{MutBor}
 use Rattle.counting.specs.Pairs.{pair, no_pair, seconds_of, zip_pairs}
+use Rattle.counting.specs.SliceVecs.{Begun, Extending}
 use Rattle.counting.specs.declared.Pair.{Pair}
+use Rattle.counting.specs.declared.slice_vec.SliceVec.{SliceVec}
+use Rattle.counting.proofs.Loops.{next_in}
+use Rattle.counting.proofs.SliceVecs.{extended_long, extending_end, extending_room}
 use Rattle.counting.proofs.Stores.{take_sets}
-use Rattle.counting.proofs.Zips.{seconds_length}
 use Rattle.frames.specs.Questions.{Question, first_no}
 use Rattle.frames.specs.Stores.{StoredFirst}
 use Rattle.files.specs.Tables.{stored}
@@ -37,49 +40,39 @@ back_stored {xs = xs} {ys} {zs} {c} e s =
     (omega (arith, s.room), rw (e, s.entries_are) (take_sets ys xs s.room))
 
 -- ONE BY ONE
-pub classes_next : (now all : List ℕ) (i : ℕ) (lines : List Pair) → i < length lines → sets now i (seconds_of (drop i lines)) ≡ all →
-    sets (set now i (get_or lines i no_pair).second) (i + 1) (seconds_of (drop (i + 1) lines)) ≡ all
+module _ {A : Type 0} {slice : MutBor (List A)} {v w : SliceVec A} (b : Begun slice v) where
+  pub store_room : {xs left left' : List A} {x : A} → Extending v xs w left → left ≡ x ∷ left' → length xs ≤ length slice.now → w.len < length w.slice.now
+  store_room E e h =
+      let r = extending_room E (omega (arith, b.empty, ap length b.slice_is)) in
+      omega (arith, ap length e)
+
+  pub store_end : {xs left after : List A} → Extending v xs w left → left ≡ [] → (slice.ghost_name ≡ w.slice.ghost_name → after ≡ w.slice.now) →
+      StoredFirst xs slice.now after × (w.len ≡ length xs)
+  store_end {xs} E e same =
+      let x = extending_end E e in
+      let n : w.len ≡ length xs = omega (arith, b.empty, x.len_is) in (
+        record {
+          room = omega (arith, w.fits, extended_long x, ap length b.slice_is);
+          entries_are = same (sym (x.same ∙ b.same)) ∙ x.slice_is ∙ rw (b.slice_is, b.empty);
+        },
+        n,
+      )
+
+pub seconds_next : (lines : List Pair) (i : ℕ) → i < length lines → seconds_of (drop i lines) ≡ (get_or lines i no_pair).second ∷ seconds_of (drop (i + 1) lines)
 unfolding seconds_of
-classes_next now all i lines h e = rw add-one (rw (drop-cons lines i no_pair h) at e)
+seconds_next lines i h = rw (next_in lines no_pair i h).is
 
-pub classes_end : (was now : List ℕ) (i : ℕ) (lines : List Pair) → length lines ≤ i → length lines ≤ length was →
-    sets now i (seconds_of (drop i lines)) ≡ sets was 0 (seconds_of lines) → StoredFirst (seconds_of lines) was now
+pub seconds_none : (lines : List Pair) (i : ℕ) → length lines ≤ i → seconds_of (drop i lines) ≡ []
 unfolding seconds_of
-classes_end was now i lines h room e =
-    record { room = omega (arith, seconds_length lines); entries_are = rw (drop_of_length-le lines h) at e }
+seconds_none lines i h = rw (drop_of_length-le lines h)
 
-pub record Pairing (was : List Pair) (firsts seconds : List ℕ) (now : List Pair) (n : ℕ) (us vs : List ℕ) : Type 0 where
-  pub rest : sets now n (zip_pairs us vs) ≡ sets was 0 (zip_pairs firsts seconds)
-  pub place : n + length (zip_pairs us vs) ≡ length (zip_pairs firsts seconds)
-
-zip_min : (us vs : List ℕ) → length (zip_pairs us vs) ≡ min (length us) (length vs)
+pub zip_next : {us vs us' vs' : List ℕ} {u v : ℕ} → us ≡ u ∷ us' → vs ≡ v ∷ vs' → zip_pairs us vs ≡ pair u v ∷ zip_pairs us' vs'
 unfolding zip_pairs
-zip_min [] vs = omega arith
-zip_min (u ∷ us) [] = omega arith
-zip_min (u ∷ us) (v ∷ vs) = omega (arith, zip_min us vs)
+zip_next d e = rw (d, e)
 
-zip_none : (us vs : List ℕ) → (length us ≡ 0) ⊎ (length vs ≡ 0) → zip_pairs us vs ≡ []
+pub zip_none : (us vs : List ℕ) → (length us ≡ 0) ⊎ (length vs ≡ 0) → zip_pairs us vs ≡ []
 unfolding zip_pairs
 zip_none [] vs h = refl
 zip_none (u ∷ us) [] h = refl
 zip_none (u ∷ us) (v ∷ vs) (inl h) = absurd (omega arith)
 zip_none (u ∷ us) (v ∷ vs) (inr h) = absurd (omega arith)
-
-module _ {was : List Pair} {firsts seconds : List ℕ} {now : List Pair} {n : ℕ} {us vs : List ℕ} (p : Pairing was firsts seconds now n us vs) where
-  pub pairing_room : {u v : ℕ} {us' vs' : List ℕ} → us ≡ u ∷ us' → vs ≡ v ∷ vs' → n < length (zip_pairs firsts seconds)
-  unfolding zip_pairs
-  pairing_room d e = let l = p.place in omega (arith, rw (d, e) at l)
-
-  pub pairing_next : {u v i m : ℕ} {us' vs' : List ℕ} → us ≡ u ∷ us' → vs ≡ v ∷ vs' → i ≡ n → m ≡ n + 1 →
-      Pairing was firsts seconds (set now i (pair u v)) m us' vs'
-  unfolding zip_pairs
-  pairing_next d e k l =
-      let a = p.rest in
-      let b = p.place in
-      record { rest = rw (k, l, add-one) (rw (d, e) at a); place = omega (arith, l, rw (d, e) at b) }
-
-  pub pairing_end : (length us ≡ 0) ⊎ (length vs ≡ 0) → length (zip_pairs firsts seconds) ≤ length was → {r : ℕ} → r ≡ min (length firsts) (length seconds) →
-      StoredFirst (zip_pairs firsts seconds) was now × (r ≡ length (zip_pairs firsts seconds))
-  pairing_end h room q =
-      let a = p.rest in
-      (record { room = room; entries_are = rw (zip_none us vs h) at a }, q ∙ sym (zip_min firsts seconds))

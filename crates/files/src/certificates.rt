@@ -10,12 +10,15 @@ ghost use Rattle.counting.specs.Pairs.{seconds_of};
 ghost use Rattle.frames.specs.Stores.{StoredFirst};
 ghost use Rattle.files.specs.CertificateReaders.{PathRead, BarrierRead};
 
-use crate::questions::{are_below, ask, in_order};
+use crate::questions::{are_below, in_order};
 use counting::Pair;
+use counting::slice_vec::SliceVec;
 use formats::kinds::Kind;
 use formats::limits::STEPS_MOST;
 use formats::refusals::Refusal;
-use frames::shape::{BARRIER, PATH, shape_of};
+use frames::ask::ask;
+use frames::layout::{BARRIER, PATH};
+use frames::shape::shape_of;
 use frames::store::store;
 
 // How many arc numbers a path has; they stand in the slice.
@@ -35,9 +38,10 @@ fn put_classes(lines: &[Pair], classes: &mut [u8])
     requires { length lines.now ≤ length classes.old }
     ensures { StoredFirst (seconds_of lines.now) classes.old classes.new }
 {
+    let mut stored = SliceVec::new(classes);
     // invariant: with the classes that are left, all of them are stored
-    for (i, line) in lines.iter().enumerate() {
-        classes[i] = line.second;
+    for line in lines {
+        stored.push(line.second);
     }
 }
 

@@ -8,6 +8,7 @@ ghost use Rattle.frames.specs.Stores.{StoredFirst};
 ghost use Rattle.matching.specs.LookUp.{LookedUp};
 
 use counting::Pair;
+use counting::slice_vec::SliceVec;
 
 // kept: a flag beside a count, since how many were looked at is told whether the pair was found or not
 #[derive(Clone, Copy)]
@@ -38,16 +39,15 @@ pub fn look_up(fits: &[Pair], pair: Pair) -> LookUp
 
 // The first numbers beside the second ones, as far as both go.
 // kept: two slices, as the C interface has them for a look-up, and the block that it lends for kept pairings
+// kept: their number, and not the part that they fill, for the reason that readers have (graphs::read_graph)
 pub fn pair_up(firsts: &[u8], seconds: &[u8], pairs: &mut [Pair]) -> usize
     requires { length (zip_pairs firsts.now seconds.now) ≤ length pairs.old }
     ensures { StoredFirst (zip_pairs firsts.now seconds.now) pairs.old pairs.new × (result ≡ length (zip_pairs firsts.now seconds.now)) }
 {
-    // invariant: as many pairs stand at the front as numbers were passed
-    for (i, (first, second)) in firsts.iter().zip(seconds).enumerate() {
-        pairs[i] = Pair {
-            first: *first,
-            second: *second,
-        };
+    let mut paired = SliceVec::new(pairs);
+    // invariant: with the pairs that are left, all of them are stored
+    for (&first, &second) in firsts.iter().zip(seconds) {
+        paired.push(Pair { first, second });
     }
-    firsts.len().min(seconds.len())
+    paired.len
 }

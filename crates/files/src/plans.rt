@@ -8,15 +8,18 @@ ghost use Rattle.frames.specs.Questions.{first_no};
 ghost use Rattle.files.specs.PlanFile.{pairing_questions};
 ghost use Rattle.files.specs.Readers.{PlanRead};
 
-use crate::questions::{are_named, ask, ask_lit};
+use crate::questions::{are_named, ask_lit};
 use counting::Pair;
 use formats::kinds::Kind;
 use formats::refusals::Refusal;
+use frames::ask::ask;
+use frames::layout::PLAN;
 use frames::numbers::number_at;
-use frames::shape::{PLAN, shape_of};
+use frames::shape::shape_of;
 use frames::store::store;
 
 // 9 and 12 to 14, of pairs against cameras and fits.
+#[tactic(auto, using(counting::proofs::Booleans::list_all_is))]
 fn ask_pairing(cameras: usize, fits: &[Pair], pairs: &[Pair]) -> Result<(), Refusal>
     ensures { refusal_in result ≡ first_no (pairing_questions cameras fits.now pairs.now) }
 {
@@ -25,6 +28,7 @@ fn ask_pairing(cameras: usize, fits: &[Pair], pairs: &[Pair]) -> Result<(), Refu
 }
 
 // How many pairs a plan has; they stand in the last slice. The header's two digits tell how many there are, so that 255 elements are enough.
+// kept: cameras and fits side by side, since a stock without lit pairs is no Stock
 pub fn read_plan(
     f: &[u8],
     cameras: usize,

@@ -1,6 +1,5 @@
 // Questions 9 to 14 and 16, put to the numbers of a file that stand in lent slices (document 01, "Questions put to a call"; 16: document 02, L5). Each
 // test answers one question, as the definitions have it; the last function asks three.
-//   ask                      a question answered yes, or its refusal
 //   are_named, are_nodes     9: every number of pairs, or end of arcs, exists
 //   are_mates, are_mated     10: each odd-numbered arc is the mate of the one before
 //   have_two_ends            16: no arc leads from a node to itself
@@ -10,10 +9,9 @@
 //   are_below, in_order      9 of a path and of a barrier
 //   ask_lit                  12 to 14, of pairs against fits
 ghost use Rattle.std.specs.Prelude.{◌≡◌, ℕ, ltb};
-ghost use Rattle.counting.specs.Tests.{all};
+ghost use Rattle.std.specs.List.{list_all};
 ghost use Rattle.counting.specs.Pairs.{pair_named};
-ghost use Rattle.formats.specs.Refusals.{refusal_in, refusal_number};
-ghost use Rattle.frames.specs.Frames.{unless};
+ghost use Rattle.formats.specs.Refusals.{refusal_in};
 ghost use Rattle.frames.specs.Questions.{first_no};
 ghost use Rattle.skew.specs.Graph.{are_mates, mates_fit, has_two_ends};
 ghost use Rattle.matching.specs.Stock.{none_shared, pairs_rise};
@@ -27,18 +25,12 @@ use arcs::node::mate_of;
 use counting::Pair;
 use formats::limits::CLASS_MOST;
 use formats::refusals::Refusal;
+use frames::ask::ask;
 use skew::Arc;
-
-// A question answered yes, or its refusal.
-pub fn ask(yes: bool, refusal: Refusal) -> Result<(), Refusal>
-    ensures { refusal_in result ≡ unless yes (refusal_number refusal) }
-{
-    if yes { Ok(()) } else { Err(refusal) }
-}
 
 // 9, of cameras: is every number of the pairs below the bound?
 pub fn are_named(pairs: &[Pair], bound: usize) -> bool
-    ensures { result ≡ all (pair_named bound) pairs.now }
+    ensures { result ≡ list_all (pair_named bound) pairs.now }
 {
     pairs.iter().all(|pair| usize::from(pair.first) < bound && usize::from(pair.second) < bound)
 }
@@ -46,14 +38,14 @@ pub fn are_named(pairs: &[Pair], bound: usize) -> bool
 // 9, of arcs: is every end below the bound?
 // kept: a function beside are_named and are_below, since one over a trait, a closure or an iterator of numbers is longer than these three chains
 pub fn are_nodes(arcs: &[Arc], bound: usize) -> bool
-    ensures { result ≡ all (ends_named bound) arcs.now }
+    ensures { result ≡ list_all (ends_named bound) arcs.now }
 {
     arcs.iter().all(|arc| usize::from(arc.tail) < bound && usize::from(arc.head) < bound)
 }
 
 // 16: has every arc two different ends?
 pub fn have_two_ends(arcs: &[Arc]) -> bool
-    ensures { result ≡ all has_two_ends arcs.now }
+    ensures { result ≡ list_all has_two_ends arcs.now }
 {
     arcs.iter().all(|arc| arc.tail != arc.head)
 }
@@ -62,8 +54,8 @@ pub fn have_two_ends(arcs: &[Arc]) -> bool
 fn are_mates(one: Arc, other: Arc) -> bool
     ensures { result ≡ are_mates one other }
 {
-    usize::from(other.tail) == mate_of(usize::from(one.head))
-        && usize::from(other.head) == mate_of(usize::from(one.tail))
+    let (tail, head) = one.ends();
+    other.ends() == (mate_of(head), mate_of(tail))
 }
 
 // 10: is each odd-numbered arc the mate of the one before?
@@ -82,7 +74,7 @@ pub fn pairs_rise(pairs: &[Pair]) -> bool
 
 // 13: is each lit pair found among the fits? Where fits rise, that is whether it is one of them.
 pub fn are_fits(fits: &[Pair], lit: &[Pair]) -> bool
-    ensures { result ≡ all (is_found fits.now) lit.now }
+    ensures { result ≡ list_all (is_found fits.now) lit.now }
 {
     lit.iter().all(|pair| look_up(fits, *pair).found)
 }
@@ -91,11 +83,10 @@ pub fn are_fits(fits: &[Pair], lit: &[Pair]) -> bool
 pub fn none_shared(pairs: &[Pair]) -> bool
     ensures { result ≡ none_shared pairs.now }
 {
-    let mut flags = [false; 256];
+    let mut flags = [false; 256]; // kept: one for each byte, since a camera's number may be any
     // invariant: proofs/SharedCameras shares_none, of the flags and the pairs that are left
     for pair in pairs {
-        let first = usize::from(pair.first);
-        let second = usize::from(pair.second);
+        let (first, second) = pair.numbers();
         if flags[first] || flags[second] {
             return false;
         }
@@ -107,7 +98,7 @@ pub fn none_shared(pairs: &[Pair]) -> bool
 
 // 9, of a path: is every arc number below the number of arcs?
 pub fn are_below(numbers: &[u16], bound: usize) -> bool
-    ensures { result ≡ all (λ (i : ℕ). ltb i bound) numbers.now }
+    ensures { result ≡ list_all (λ (i : ℕ). ltb i bound) numbers.now }
 {
     numbers.iter().all(|number| usize::from(*number) < bound)
 }
@@ -121,6 +112,7 @@ pub fn in_order(lines: &[Pair]) -> bool
 }
 
 // 12 to 14, of pairs against fits.
+#[tactic(auto, using(counting::proofs::Booleans::list_all_is))]
 pub fn ask_lit(fits: &[Pair], lit: &[Pair]) -> Result<(), Refusal>
     ensures { refusal_in result ≡ first_no (lit_questions fits.now lit.now) }
 {

@@ -57,6 +57,6 @@ pub extern "C" fn files_look_up(
         second: v,
     };
     let answer = look_up_all(firsts, seconds, sought);
-    *count = [answer.looked as u64];
+    *count = [answer.looked as u64]; // kept: no From, and try_from would ask what always holds
     u8::from(answer.found)
 }

@@ -41,6 +41,6 @@ impl From<Kind> for usize {
     ghost from_gives = { λ kind number. number ≡ kind_number kind };
 
     fn from(kind: Kind) -> usize {
-        kind as usize
+        kind as usize // kept: of an enum there is no other way to its number
     }
 }

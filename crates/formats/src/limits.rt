@@ -4,6 +4,7 @@
 //   FILE_MOST          2: bytes of a file
 //   LINES_MOST         lines that a file of so many bytes can have behind a header, each of seven bytes at least
 //   MATE_PAIRS_MOST    5: mate pairs of a graph
+//   NODES_MOST         nodes of a graph: two of each mate pair
 //   CAMERAS_MOST       5: cameras of a stock
 //   PAIRS_MOST         pairs of a stock's pairing, at most: half its cameras
 //   PLAN_PAIRS_MOST    7: pairs that a plan's header can tell
@@ -22,6 +23,8 @@ pub const FILE_MOST: usize = 60000;
 pub const LINES_MOST: usize = 8571;
 
 pub const MATE_PAIRS_MOST: usize = 0x80;
+
+pub const NODES_MOST: usize = 2 * MATE_PAIRS_MOST;
 
 pub const CAMERAS_MOST: usize = 0x7F;
 

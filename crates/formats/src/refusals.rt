@@ -50,6 +50,6 @@ impl From<Refusal> for u8 {
     ghost from_gives = { λ refusal number. number ≡ refusal_number refusal };
 
     fn from(refusal: Refusal) -> u8 {
-        refusal as u8
+        refusal as u8 // kept: of an enum there is no other way to its number
     }
 }

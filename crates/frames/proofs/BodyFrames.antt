@@ -35,7 +35,7 @@ use Rattle.frames.specs.Frames.{lines_of, hex_at, kind_of, is_frame_of, later_fi
 use Rattle.frames.specs.Questions.{ask, first_no, answered}
 use Rattle.frames.specs.Lines.{part, LineAt}
 use Rattle.frames.specs.Shape.{form_of, bodies_of, first_kind, last_of, before_last, lines_fit, body_fault, end_fault, BodyAnswer}
-use Rattle.frames.specs.declared.shape.Layout.{Layout}
+use Rattle.frames.specs.declared.layout.Layout.{Layout}
 use Rattle.frames.proofs.LinePlaces.{part_length, lines_here, lines_some, last_here}
 use Rattle.frames.proofs.HexNumbers.{hex_part}
 use Rattle.frames.proofs.Questions.{beside_refusal}

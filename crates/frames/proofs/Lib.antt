@@ -1,6 +1,6 @@
 -- Laws by subject; each file stands on those above it.
 --   LineEnds      what ends a line
---   LinePlaces    lines by their places in a file
+--   LinePlaces    lines by their places in a file, and one by one
 --   EitherEnd     files whose lines end either way
 --   HexNumbers    numbers of digits, in a line and in the file
 --   WholeFiles    question 3, line by line
@@ -8,7 +8,7 @@
 --   BodyFrames    questions 6 and 7, line by line
 --   HeaderFrames  questions 2, 3 and 4, and the first line
 --   ShapeFaults   questions 2 to 7 together
---   Writes        runs of bytes written one behind the other
+--   Writes        bytes written one behind the other into a lent slice
 --   Begins        files that begin with a text
 --   LineCounts    how many lines a file of so many bytes has
 --   Runs          runs of lines of one kind

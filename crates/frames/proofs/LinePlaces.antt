@@ -7,6 +7,7 @@
 --   lines_here, lines_some, last_here             the lines from a place on: the line there, and those from the next on
 --   line_after_lem                                where the line behind it begins
 --   ends_here                                     whether the last line is ended, from a place on
+--   line_taken, file_kept                        lines one by one: the line taken, and the file, which stays
 --   part_length, part_tail                        how long a part is; a part that goes on to the file's end
 use mathlib.Core.Path.{◌≡◌, refl, ap, sym, ◌∙◌}
 use mathlib.Core.Bool.{◌&&◌}
@@ -18,9 +19,14 @@ use lib.Dec.{ltb}
 use lib.ListN.{length, get_or, take, drop, length-drop, drop_of_length-le}
 use lib.Seq.{drop-cons, drop-drop, take_all, length-take-le}
 use borrow.Author.Tests.{ltb-true, ltb-false, lt-ltb, le-ltb}
+use Rattle.std.specs.Prelude.{Some}
+use Rattle.std.specs.Borrow.{Bor}
 use Rattle.counting.proofs.Booleans.{by_test}
 use Rattle.frames.specs.Frames.{with_byte, lines_of, ends_whole}
 use Rattle.frames.specs.Lines.{line_end, control_at, line_length, part, line_after, LineAt}
+use Rattle.frames.specs.LineRuns.{LineTaken}
+use Rattle.frames.specs.declared.lines.Line.{Line}
+use Rattle.frames.specs.declared.lines.Lines.{Lines}
 use Rattle.frames.proofs.LineEnds.{end_none, end_fits, end_above, lines_end, lines_byte, ends_end, ends_byte}
 
 -- THE FIRST LINE of what stands from a place on, and what stands past it
@@ -38,7 +44,7 @@ module _ (c : ℕ) (cs : List ℕ) where
   unfolding line_length
   length_end h = rw (lt-ltb _ _ h)
 
-  pub length_byte : line_end (c ∷ cs) ≡ 0 → line_length (c ∷ cs) ≡ suc (line_length cs)
+  length_byte : line_end (c ∷ cs) ≡ 0 → line_length (c ∷ cs) ≡ suc (line_length cs)
   unfolding line_length
   length_byte h = rw h
 
@@ -212,3 +218,11 @@ line_after_lem {f} l = l.goes ∙ ap (λ (e : ℕ). e + line_end (drop e f)) l.e
 pub lines_some : (s : List ℕ) → 0 < length s → 0 < length (lines_of s)
 lines_some [] h = absurd (omega arith)
 lines_some (c ∷ cs) h = rw (lines_first c cs) (omega arith)
+
+-- ONE BY ONE
+module _ {s s' : Lines} {l : Line} {f : List ℕ} (same : s.file.now ≡ f) (t : LineTaken s (Some l) s') where
+  pub line_taken : LineAt f l.at l.end l.next
+  line_taken = rw (t.0, ← same) t.1
+
+  pub file_kept : s'.file.now ≡ f
+  file_kept = ap (λ (b : Bor (List ℕ)). b.now) t.3 ∙ same

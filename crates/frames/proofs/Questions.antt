@@ -12,6 +12,8 @@
 --   refusal_is                the refusal is 0 or one of the numbers: what holds of those holds of it
 --   answered_none, answered_refused     a value beside 0, and beside a refusal
 --   refusal_some, beside_refusal        a refusal's number is not 0, and so no value stands beside it
+--   was_yes, was_no           what the code's `ask` answered of a question, read back where it refused nothing, and where it refused
+--   passed_on                 what `?` returns beside a refusal: that refusal
 use mathlib.Core.Path.{◌≡◌, refl, ap, sym, ◌∙◌}
 use mathlib.Core.Logic.{◌≢◌}
 use mathlib.Core.Bool.{Bool, true, false, ◌&&◌}
@@ -20,6 +22,9 @@ use Prim.Native.Nat.{ℕ, ◌<◌}
 use native.Mathlib.Omega.{arith}
 use lib.Dec.{eqb, ltb}
 use borrow.Author.Tests.{eq-eqb, ne_eqb, eqb-true, eqb-false, ltb-true}
+use Rattle.std.specs.Prelude.{Result, Err}
+use Rattle.std.specs.Result.{IsErr, IsErrAnd}
+use Rattle.std.proofs.lemmas.Result.{err_from_is_err_and}
 use Rattle.formats.specs.Refusals.{refusal_number}
 use Rattle.formats.specs.declared.refusals.Refusal.{Refusal}
 use Rattle.formats.specs.declared.refusals.Refusal.TheVariants as refusal
@@ -136,3 +141,13 @@ refusal_some refusal.Full q = omega arith
 
 pub beside_refusal : (e : Refusal) (x : ℕ) → answered (refusal_number e) x ≡ 0
 beside_refusal e x = answered_refused x (refusal_some e)
+
+-- AS THE CODE ASKS: `ask(z, refusal)?`
+pub was_yes : {z : Bool} (n : ℕ) → 0 ≡ unless z n → ltb 0 n ≡ true → z ≡ true
+was_yes {z} n e h = by_test z (λ t. t) (λ t. let q : 0 ≡ n = rw t at e in let k = ltb-true 0 n h in absurd (omega arith))
+
+pub was_no : {z : Bool} {n : ℕ} (e : Refusal) → refusal_number e ≡ unless z n → (z ≡ false) × (refusal_number e ≡ n)
+was_no {z} e q = by_test z (λ t. absurd (refusal_some e (rw t at q))) (λ t. (t, rw t at q))
+
+pub passed_on : {A : Type 0} {e : Refusal} {r : Result A Refusal} → IsErr r × IsErrAnd r (λ y. y ≡ e) → r ≡ Err e
+passed_on {e = e} {r} h = let p = err_from_is_err_and r h.1 in p.1 ∙ ap Err p.2

@@ -21,7 +21,7 @@ use Rattle.frames.specs.Frames.{unless, lines_of, ends_whole, is_digit, is_frame
 use Rattle.frames.specs.Questions.{ask, first_no}
 use Rattle.frames.specs.Lines.{is_plain, line_after, LineAt}
 use Rattle.frames.specs.Shape.{form_of, bodies_of, first_kind, header_questions, header_fault, body_questions, body_fault, shape_questions, sized_questions, HeaderAnswer, BodyAnswer, Shaped, ShapeAnswer}
-use Rattle.frames.specs.declared.shape.Layout.{Layout}
+use Rattle.frames.specs.declared.layout.Layout.{Layout}
 use Rattle.frames.proofs.HexNumbers.{hex_small}
 use Rattle.frames.proofs.Questions.{chain_first, first_stop, first_go, first_none, accepted, answered_none, answered_refused}
 use Rattle.frames.proofs.BodyFrames.{frame_length, first_kind_lem, last_kind_lem, fit_bodies, fit_runs, second}

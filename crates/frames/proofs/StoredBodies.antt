@@ -18,13 +18,14 @@ use lib.ListN.{length, take, drop, length-append, length-drop, take-append-drop}
 use lib.Seq.{take-suc, take-length, length-take-le}
 use borrow.Author.Tests.{eqb-true, le-leb}
 use Rattle.counting.specs.Tests.{all}
+use Rattle.counting.specs.Pairs.{number_of}
 use Rattle.counting.specs.declared.Pair.{Pair}
 use Rattle.counting.proofs.Booleans.{and_left, and_right, and_both}
 use Rattle.counting.proofs.Membership.{all_each, each_all, all_append}
 use Rattle.frames.specs.Frames.{lines_of, is_digit, Form, last_line, body_lines, rest_lines, pairs_in, numbers_in}
 use Rattle.frames.specs.Lines.{is_plain}
 use Rattle.frames.specs.Shape.{first_kind, last_kind, Shaped}
-use Rattle.frames.specs.Stores.{has_kind, run_of, past_run, run_at, is_long, Storable, RunPassed, number_of}
+use Rattle.frames.specs.Stores.{has_kind, run_of, past_run, run_at, is_long, Storable, RunPassed}
 use Rattle.frames.proofs.LineCounts.{long_few}
 use Rattle.frames.proofs.Stores.{numbers_pairs}
 use Rattle.frames.proofs.Runs.{other_kind, frames_kind, run_only, run_first, run_second, run_pairs, pairs_first, pairs_second}

@@ -1,8 +1,8 @@
 -- Runs of body frames, stored line by line.
 --   Passing kind g at i n            of the run that begins at `at`, n lines are passed, and i is the place reached
---   Filling of kind g .. slice       so many of the run's frames are stored at the slice's front, each as `of` makes it of its two numbers
+--   Filling gives kind g at v i w    so many of the run's frames are stored in w, which was empty as v, each as the conversion makes it of its two numbers
 --   Stopped kind g i                 no line of the kind stands at i
---   LineNumbers g i end              the line at i is long enough for a body frame, and how large its numbers are
+--   LineNumbers g i end              the line at i is long enough for a body frame and stands within the file, and how large its numbers are
 --   line_numbers                     a line that is passed is
 --   passing_room                     an element is left for a line of the run
 --   passing_next, filling_next       past a line of the kind
@@ -18,20 +18,24 @@ use mathlib.Core.Bool.{true, false}
 use mathlib.Core.List.{List, [], ◌∷◌, map}
 use Prim.Native.Nat.{ℕ, suc, ◌+◌, ◌≤◌, ◌<◌}
 use native.Mathlib.Nat.{add-zero}
-use native.Mathlib.Numerals.{add-one}
 use native.Mathlib.Omega.{arith}
-use lib.ListN.{length, drop, set, length-map, drop_of_length-le}
+use lib.ListN.{length, drop, length-map, drop_of_length-le}
 use lib.Dec.{leb}
 use Rattle.std.proofs.lemmas.List.{map-id}
 use Rattle.std.proofs.lemmas.List.Edits.{sets}
 use borrow.Author.Tests.{eq-eqb, ne_eqb, leb-true}
+use Rattle.std.specs.Borrow.{MutBor}
 use Rattle.counting.specs.Tests.{all}
-use Rattle.counting.specs.Pairs.{pair}
+use Rattle.counting.specs.SliceVecs.{Begun, Extended}
+use Rattle.counting.specs.declared.slice_vec.SliceVec.{SliceVec}
+use Rattle.counting.proofs.Stores.{sets_append}
+use Rattle.counting.proofs.SliceVecs.{extended_long}
+use Rattle.counting.specs.Pairs.{pair, number_of}
 use Rattle.counting.specs.declared.Pair.{Pair}
 use Rattle.counting.proofs.Booleans.{and_left, and_two}
 use Rattle.frames.specs.Frames.{lines_of, is_digit, hex_at, kind_of, pairs_in, numbers_in}
 use Rattle.frames.specs.Lines.{part, line_after, past_lines, LineAt}
-use Rattle.frames.specs.Stores.{has_kind, run_of, past_run, run_at, is_long, Storable, RunPassed, StoredFirst, Stored, number_of}
+use Rattle.frames.specs.Stores.{has_kind, run_of, past_run, run_at, is_long, Storable, RunPassed, StoredFirst, Gives, Stored}
 use Rattle.frames.proofs.LinePlaces.{lines_here, line_after_lem, part_length}
 use Rattle.frames.proofs.HexNumbers.{hex_four, hex_part, hex_small_part}
 use Rattle.frames.proofs.Runs.{run_kept, past_kept, run_none, past_none, run_nil, past_nil, past_each, run_pairs}
@@ -43,14 +47,18 @@ pub record Passing (kind : ℕ) (g : List ℕ) (at i n : ℕ) : Type 0 where
   pub rest : past_run kind (lines_of (drop i g)) ≡ past_run kind (lines_of (drop at g))
   pub low : at ≤ i
 
-pub record Filling {T : Type 0} (of : Pair → T) (kind : ℕ) (g : List ℕ) (at i n : ℕ) (before slice : List T) : Type 0 where
-  pub rest : sets slice n (map of (pairs_in kind (run_at kind g i))) ≡ sets before 0 (map of (pairs_in kind (run_at kind g at)))
+pub record Filling {T : Type 0} (gives : Pair → T → Type 0) (kind : ℕ) (g : List ℕ) (at : ℕ) (v : SliceVec T) (i : ℕ) (w : SliceVec T) : Type 0 where
+  pub rest : (of : Pair → T) → Gives gives of →
+      sets w.slice.now w.len (map of (pairs_in kind (run_at kind g i))) ≡ sets v.slice.now v.len (map of (pairs_in kind (run_at kind g at)))
+  pub long : length w.slice.now ≡ length v.slice.now
+  pub same : w.slice.ghost_name ≡ v.slice.ghost_name
 
 abbrev pub Stopped : (kind : ℕ) → (g : List ℕ) → (i : ℕ) → Type 0
 Stopped kind g i = (run_at kind g i ≡ []) × (past_run kind (lines_of (drop i g)) ≡ lines_of (drop i g))
 
 pub record LineNumbers (g : List ℕ) (i end : ℕ) : Type 0 where
   pub long : i + 6 ≤ end
+  pub inside : end ≤ length g
   pub first : hex_at (i + 2) 2 g < 256
   pub second : hex_at (i + 4) 2 g < 256
 
@@ -72,6 +80,7 @@ module _ {kind : ℕ} {g : List ℕ} {at i end next n : ℕ} (h : LineAt g i end
       let d = long_digits.1 in
       record {
         long = l;
+        inside = omega (arith, h);
         first = hex_small_part 2 2 i end g (omega arith) d;
         second = hex_small_part 4 2 i end g (omega arith) d;
       }
@@ -116,10 +125,19 @@ module _ {kind : ℕ} {g : List ℕ} {at i end next n : ℕ} (h : LineAt g i end
         let l = line_long in
         ap (pairs_in kind) run_here ∙ rw (of_kind, hex_part 2 2 i end g (omega arith), hex_part 4 2 i end g (omega arith))
 
-    pub filling_next : {T : Type 0} {of : Pair → T} {before slice : List T} → Filling of kind g at i n before slice →
-        Filling of kind g at next (n + 1) before (set slice n (of (pair (hex_at (i + 2) 2 g) (hex_at (i + 4) 2 g))))
-    filling_next {of = of} {slice = slice} s =
-        record { rest = rw add-one (sym (ap (λ (xs : List Pair). sets slice n (map of xs)) pairs_here) ∙ s.rest) }
+    pub filling_next : {T : Type 0} {gives : Pair → T → Type 0} {v w w' : SliceVec T} {y : T} → Filling gives kind g at v i w → n ≡ w.len →
+        gives (pair (hex_at (i + 2) 2 g) (hex_at (i + 4) 2 g)) y → Extended w (y ∷ []) w' → Filling gives kind g at v next w'
+    filling_next {w = w} {y = y} s m q x =
+        record {
+          rest =
+              λ of h.
+              let x' = of (pair (hex_at (i + 2) 2 g) (hex_at (i + 4) 2 g)) in
+              let left = map of (pairs_in kind (run_at kind g next)) in
+              rw (x.slice_is, x.len_is, h _ _ q)
+              (sets_append w.slice.now w.len (x' ∷ []) left ∙ sym (ap (λ (xs : List Pair). sets w.slice.now w.len (map of xs)) pairs_here) ∙ s.rest of h);
+          long = extended_long x ∙ s.long;
+          same = x.same ∙ s.same;
+        }
 
 pub stopped_over : (kind : ℕ) (g : List ℕ) (i : ℕ) → length g ≤ i → Stopped kind g i
 unfolding lines_of
@@ -156,18 +174,16 @@ module _ {kind : ℕ} {g : List ℕ} {at i n : ℕ} (p : Passing kind g at i n) 
         high = p.left.inside;
       }
 
-  pub stored : {T : Type 0} {of : Pair → T} {before slice : List T} → Filling of kind g at i n before slice →
-      length (run_at kind g at) ≤ length before → Stored of kind g at before slice n i
+  pub stored : {T : Type 0} {gives : Pair → T → Type 0} {slice : MutBor (List T)} {v w : SliceVec T} {after : List T} → Begun slice v →
+      Filling gives kind g at v i w → n ≡ w.len → length (run_at kind g at) ≤ length slice.now → after ≡ w.slice.now → (of : Pair → T) →
+      Gives gives of → Stored of kind g at slice.now after w.len i
   unfolding pairs_in
-  stored {of = of} {before} {slice} s u =
+  stored {slice = slice} {w = w} b s m u e of h =
       let l = run_pairs kind (lines_of (drop at g)) in
+      let x = ap (λ (ls : List (List ℕ)). sets w.slice.now w.len (map of (pairs_in kind ls))) stop.0 in
       record {
-        passed = all_passed;
-        entries =
-            record {
-              room = simp length-map (omega arith);
-              entries_are = sym (ap (λ (ls : List (List ℕ)). sets slice n (map of (pairs_in kind ls))) stop.0) ∙ s.rest;
-            };
+        passed = rw (← m) all_passed;
+        entries = record { room = simp length-map (omega arith); entries_are = e ∙ sym x ∙ s.rest of h ∙ rw (b.slice_is, b.empty) };
       }
 
 module _ {T : Type 0} {of : Pair → T} {kind : ℕ} {g : List ℕ} {at : ℕ} {before after : List T} {n turn : ℕ} (s : Stored of kind g at before after n turn) where

@@ -1,17 +1,15 @@
--- Runs of bytes written one behind the other.
+-- Bytes written one behind the other into a lent slice.
 --   sets_over                           a run of stores at the front: what is stored, then what stood behind it (document 03's `over`)
---   written_rest, written_then          the same of what two calls wrote
---   written_over                        the same of a text written at the front
+--   text_whole                          so what stands in the slice once a text was written into it from its front on, and how much that is
 --   hex_bytes_length                    digits: how many
 --   two_value, four_value               what is read of a number that was written in two digits, and in four
 --   frame4_length                       how many bytes a frame with one number takes
+--   written_sizes                       for `using`: how long a list and its slice are behind frames written
 --   frame_of4_parts                     a number of four digits is its upper two and its lower two
---   text_end                            a text written part by part: all parts are
 --   frame_length                        how many bytes a frame of so many numbers takes
---   FieldsWritten ..                    a frame written number by number: so many fields are
+--   FieldsWritten v kind fields i w     a frame written number by number: the kind and so many fields are
 --   kind_written, field_written, frame_written    the kind is; one field more is; all are, and the line feed
 --   frame_room                          there is room for the numbers left
---   text_put                            a text written in one piece
 use mathlib.Core.Path.{◌≡◌, refl, ap, ◌∙◌}
 use mathlib.Core.List.{List, [], ◌∷◌, ◌++◌, append_assoc}
 use Prim.Native.Nat.{ℕ, zero, suc, ◌+◌, ◌*◌, ◌-◌, ◌/◌, ◌%◌, ◌≤◌, ◌<◌}
@@ -19,37 +17,24 @@ use native.Mathlib.Omega.{arith}
 use native.Mathlib.Numerals.{add-one}
 use native.Mathlib.Nat.{zero-add}
 use lib.Dec.{ltb}
-use borrow.Rule.Slice.PartMut.{put_mid}
-use lib.ListN.{length, get_or, drop, set, length-append, length-drop, drop_of_length-le}
-use lib.Seq.{sets, sets-eq, drop-cons, drop-drop}
+use lib.ListN.{length, get_or, drop, length-append, length-drop, drop_of_length-le}
+use lib.Seq.{sets, sets-eq, drop-cons}
 use borrow.Author.Tests.{ltb-true, ltb-false, le-leb, lt-leb}
 use Rattle.counting.proofs.Booleans.{by_test}
-use Rattle.counting.specs.Loops.{Storing}
-use Rattle.counting.proofs.Loops.{storing_start, storing_next, storing_end}
-use Rattle.counting.proofs.Stores.{sets_append}
+use Rattle.std.specs.Borrow.{MutBor}
+use Rattle.counting.specs.SliceVecs.{Begun, Extended, Extending}
+use Rattle.counting.specs.declared.slice_vec.SliceVec.{SliceVec}
+use Rattle.counting.proofs.SliceVecs.{extended_long, extending_start, extending_next, extending_end, extending_room}
 use Rattle.frames.specs.Frames.{digit_of, hex_from, digit_byte, hex_bytes, frame_bytes, frame4, frame_of4}
-use Rattle.frames.specs.Writes.{Written}
 
 -- ONE RUN BEHIND ANOTHER
 pub sets_over : (xs l : List ℕ) → length xs ≤ length l → sets l 0 xs ≡ xs ++ drop (length xs) l
 sets_over xs l h = let e = sets-eq xs l 0 (omega arith) in rw zero-add at e
 
-module _ {before : List ℕ} {at size : ℕ} {text after : List ℕ} {next : ℕ} (w : Written before at size text after next) where
-  pub written_rest : (more : List ℕ) → sets after next more ≡ sets before at (text ++ more)
-  written_rest more = rw (w.bytes, w.place, ← w.full) (sets_append before at text more)
-
-  pub written_then : {more later : List ℕ} {count end : ℕ} → Written after next count more later end →
-      Written before at (size + count) (text ++ more) later end
-  written_then {more = more} v =
-      record {
-        bytes = v.bytes ∙ written_rest more;
-        full = length-append text more ∙ omega (arith, w.full, v.full);
-        place = omega (arith, w.place, v.place);
-      }
-
-pub written_over : {before text after : List ℕ} {size next : ℕ} → Written before 0 size text after next → size ≤ length before →
-    (after ≡ text ++ drop (length text) before) × (next ≡ length text)
-written_over {before} {text} w h = (w.bytes ∙ sets_over text before (omega arith), omega arith)
+pub text_whole : {slice : MutBor (List ℕ)} {v w : SliceVec ℕ} {text : List ℕ} → Begun slice v → Extended v text w → length text ≤ length slice.now →
+    (w.slice.now ≡ text ++ drop (length text) slice.now) × (w.len ≡ length text)
+text_whole {slice} {text = text} b x h =
+    (x.slice_is ∙ rw (b.slice_is, b.empty) (sets_over text slice.now h), omega (arith, x.len_is, b.empty))
 
 -- HOW MANY BYTES
 pub hex_bytes_length : (n v : ℕ) → length (hex_bytes n v) ≡ n
@@ -59,6 +44,9 @@ hex_bytes_length (suc n) v = rw (length-append, hex_bytes_length n (v / 16)) (om
 
 pub frame4_length : (k a : ℕ) → length (frame4 k a) ≡ 5
 frame4_length k a = simp (length-append, hex_bytes_length)
+
+-- for `#[tactic(auto, using(..))]` on a function that writes one frame behind another
+pub ruleset written_sizes = (hex_bytes_length, length-append, extended_long)
 
 -- DIGITS
 digit_value : (d : ℕ) → d < 16 → digit_of (digit_byte d) ≡ d
@@ -93,49 +81,29 @@ hex_bytes_split v =
 pub frame_of4_parts : (k v : ℕ) → frame_bytes (k ∷ v / 256 ∷ v ∷ []) ≡ frame_of4 k v
 frame_of4_parts k v = rw (← hex_bytes_split v) (simp append_assoc)
 
-pub text_end : {before text out left : List ℕ} {at size next : ℕ} → Storing before at text out next left → left ≡ [] → length text ≡ size →
-    Written before at size text out next
-text_end s e l = record { bytes = (storing_end s e).0; full = l; place = (storing_end s e).1 ∙ rw l }
-
 -- A FRAME, number by number
 pub frame_length : (xs : List ℕ) → length (frame_bytes xs) ≡ 2 * length xs + 1
 frame_length [] = refl
 frame_length (x ∷ xs) = rw (length-append, hex_bytes_length 2 x, frame_length xs) (omega arith)
 
 -- the kind and so many fields are written; what is left is the others and the line feed
-pub record FieldsWritten (before : List ℕ) (at kind : ℕ) (fields : List ℕ) (i : ℕ) (out : List ℕ) (next : ℕ) : Type 0 where
-  pub stores : Storing before at (frame_bytes (kind ∷ fields)) out next (frame_bytes (drop i fields))
+pub record FieldsWritten (v : SliceVec ℕ) (kind : ℕ) (fields : List ℕ) (i : ℕ) (w : SliceVec ℕ) : Type 0 where
+  pub stores : Extending v (frame_bytes (kind ∷ fields)) w (frame_bytes (drop i fields))
 
-pub kind_written : {before out : List ℕ} {at next : ℕ} (k : ℕ) (fields : List ℕ) → Written before at 2 (hex_bytes 2 k) out next →
-    FieldsWritten before at k fields 0 out next
-kind_written {before} {at = at} k fields w =
-    record {
-      stores =
-          storing_next (storing_start before at (frame_bytes (k ∷ fields))) (hex_bytes 2 k) refl w.bytes
-          (omega (arith, hex_bytes_length 2 k, w.place));
-    }
+pub kind_written : {v w : SliceVec ℕ} (k : ℕ) (fields : List ℕ) → Extended v (hex_bytes 2 k) w → FieldsWritten v k fields 0 w
+kind_written {v} k fields x = record { stores = extending_next (extending_start v (frame_bytes (k ∷ fields))) (hex_bytes 2 k) refl x }
 
-module _ {before : List ℕ} {at kind : ℕ} {fields : List ℕ} {i : ℕ} {out : List ℕ} {next : ℕ} (w : FieldsWritten before at kind fields i out next)
-    (room : at + (2 * length fields + 3) ≤ length before) where
-  pub frame_room : next + (2 * (length fields - i) + 1) ≤ length out
-  frame_room =
-      omega (arith, room, w.stores.place, w.stores.long, frame_length (kind ∷ fields), frame_length (drop i fields), length-drop i fields)
+module _ {v : SliceVec ℕ} {kind : ℕ} {fields : List ℕ} {i : ℕ} {w : SliceVec ℕ} (h : FieldsWritten v kind fields i w) where
+  pub frame_room : v.len + (2 * length fields + 3) ≤ length v.slice.now → w.len + (2 * (length fields - i) + 1) ≤ length w.slice.now
+  frame_room room =
+      let r = extending_room h.stores (omega (arith, room, frame_length (kind ∷ fields))) in
+      omega (arith, r, frame_length (drop i fields), length-drop i fields)
 
-  pub field_written : {out' : List ℕ} {next' : ℕ} → i < length fields → Written out next 2 (hex_bytes 2 (get_or fields i 0)) out' next' →
-      FieldsWritten before at kind fields (i + 1) out' next'
-  field_written h v =
-      let x = get_or fields i 0 in
-      let e : drop i fields ≡ x ∷ drop (i + 1) fields = rw add-one (drop-cons fields i 0 h) in
-      record { stores = storing_next w.stores (hex_bytes 2 x) (ap frame_bytes e) v.bytes (omega (arith, hex_bytes_length 2 x, v.place)) }
+  pub field_written : {w' : SliceVec ℕ} → i < length fields → Extended w (hex_bytes 2 (get_or fields i 0)) w' → FieldsWritten v kind fields (i + 1) w'
+  field_written l x =
+      let n = get_or fields i 0 in
+      let e : drop i fields ≡ n ∷ drop (i + 1) fields = rw add-one (drop-cons fields i 0 l) in
+      record { stores = extending_next h.stores (hex_bytes 2 n) (ap frame_bytes e) x }
 
-  pub frame_written : length fields ≤ i → Written before at (2 * length fields + 3) (frame_bytes (kind ∷ fields)) (set out next 10) (next + 1)
-  frame_written h =
-      text_end (storing_next w.stores (10 ∷ []) (ap frame_bytes (drop_of_length-le fields h)) refl refl) refl
-      (frame_length (kind ∷ fields) ∙ omega arith)
-
--- A TEXT
-pub text_put : (l text : List ℕ) (at : ℕ) → at + length text ≤ length l →
-    Written l at (length text) text (put_mid at (at + length text - at) l text) (at + length text)
-text_put l text at h =
-    let n : at + length text - at ≡ length text = omega arith in
-    record { bytes = rw (n, sets-eq text l at h) (simp (append_assoc, drop-drop)); full = refl; place = refl }
+  pub frame_written : {w' : SliceVec ℕ} → length fields ≤ i → Extended w (10 ∷ []) w' → Extended v (frame_bytes (kind ∷ fields)) w'
+  frame_written l x = extending_end (extending_next h.stores (10 ∷ []) (ap frame_bytes (drop_of_length-le fields l)) x) refl

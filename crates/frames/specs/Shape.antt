@@ -21,7 +21,7 @@ use Rattle.counting.specs.Tests.{all}
 use Rattle.frames.specs.Frames.{lines_of, is_digit, is_whole_file, hex_at, Form, is_frame_of, first_line, rest_lines, last_line, body_lines, has_header, bodies_fit, shape_fault, pairs_in}
 use Rattle.frames.specs.Questions.{Question, ask, first_no, answered}
 use Rattle.frames.specs.Lines.{is_plain, line_after, LineAt}
-use Rattle.frames.specs.declared.shape.Layout.{Layout}
+use Rattle.frames.specs.declared.layout.Layout.{Layout}
 use Rattle.frames.specs.declared.shape.Body.{Body}
 use Rattle.frames.specs.declared.shape.Shape.{Shape}
 

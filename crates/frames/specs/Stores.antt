@@ -7,9 +7,9 @@
 --   Storable g at                      what storing asks of the lines from a place on: digits, as many as a body frame has at least
 --   RunPassed kind g at count next     the run that begins at `at` has `count` lines, and `next` is where it stops
 --   StoredFirst xs before after        xs stand at the front of a slice, and nothing else differs
+--   Gives gives of                     a conversion gives what `of` does
 --   Stored of kind g ..                a run's frames are stored so, each as `of` makes it of the frame's two numbers
---   number_of x                        two numbers of two digits as one of four
-use Rattle.std.specs.Prelude.{◌≡◌, Bool, true, ◌&&◌, List, [], ◌∷◌, map, ℕ, ◌+◌, ◌*◌, ◌≤◌, eqb, leb, length, drop}
+use Rattle.std.specs.Prelude.{◌≡◌, Bool, true, ◌&&◌, List, [], ◌∷◌, map, ℕ, ◌≤◌, eqb, leb, length, drop}
 use Rattle.std.proofs.lemmas.List.Edits.{sets}
 use Rattle.counting.specs.Tests.{pick, all}
 use Rattle.counting.specs.declared.Pair.{Pair}
@@ -48,9 +48,9 @@ pub record StoredFirst {T : Type 0} (xs before after : List T) : Type 0 where
   pub room : length xs ≤ length before
   pub entries_are : after ≡ sets before 0 xs
 
+abbrev pub Gives : {T : Type 0} → (gives : Pair → T → Type 0) → (of : Pair → T) → Type 0
+Gives {T} gives of = (x : Pair) (y : T) → gives x y → y ≡ of x
+
 pub record Stored {T : Type 0} (of : Pair → T) (kind : ℕ) (g : List ℕ) (at : ℕ) (before after : List T) (count next : ℕ) : Type 0 where
   pub passed : RunPassed kind g at count next
   pub entries : StoredFirst (map of (pairs_in kind (run_at kind g at))) before after
-
-abbrev pub number_of : Pair → ℕ
-number_of x = 256 * x.first + x.second

@@ -2,6 +2,7 @@
 //   line_end         the bytes that a line end takes
 //   first_control    the next control character
 //   Line, line_at    the line at a place
+//   Lines            the lines from a place on, one by one
 //   whole            question 3
 ghost use Rattle.std.specs.Prelude.{◌≡◌, ◌+◌, ◌<◌, ◌≤◌, length, drop, MatchOption};
 ghost use Rattle.frames.specs.Frames.{is_whole_file};
@@ -32,47 +33,87 @@ fn first_control(f: &[u8], at: usize) -> usize
     at + s.iter().position(|c| *c < 32).unwrap_or(s.len())
 }
 
-// A line: where its bytes end, and where what follows its line end begins.
+// A line: where it begins, where its bytes end, and where what follows its line end begins.
 #[derive(Clone, Copy)]
 pub(crate) struct Line {
+    pub(crate) at: usize,
     pub(crate) end: usize,
     pub(crate) next: usize,
 }
 
-// The line that begins at `from`.
-pub(crate) fn line_at(f: &[u8], from: usize) -> Line
-    requires { from < length f.now }
-    ensures { LineAt f.now from result.end result.next }
+// The line that begins at `at`.
+pub(crate) fn line_at(f: &[u8], at: usize) -> Line
+    requires { at < length f.now }
+    ensures { (result.at ≡ at) × LineAt f.now at result.end result.next }
 {
-    let mut end = first_control(f, from);
-    // kept: a place that jumps from one control character to the next
+    let mut end = first_control(f, at);
+    // kept: a place that jumps from one control character to the next, so nothing is counted; an iterator over them would have this loop inside
     // invariant: proofs/LinePlaces SameLine; falls: bytes left
     while end < f.len() {
         if let Some(n) = line_end(&f[end..]) {
-            return Line { end, next: end + n };
+            return Line {
+                at,
+                end,
+                next: end + n,
+            };
         }
         end = first_control(f, end + 1);
     }
-    Line { end, next: end }
+    Line { at, end, next: end }
 }
 
-// Question 3: is the file made of whole lines, each a positive even number of digits? In one pass, line by line.
+// The lines of the file from the one that begins at `at` on.
+#[derive(Drop)]
+pub(crate) struct Lines<'a> {
+    pub(crate) file: &'a [u8],
+    pub(crate) at: usize,
+}
+
+impl Iterator for Lines<'_> {
+    type Item = Line;
+
+    ghost use Rattle.std.specs.Prelude.{◌-◌, ◌≤◌, length};
+    ghost use Rattle.std.specs.Iterator.{at_most};
+    ghost use Rattle.frames.specs.LineRuns.{LineTaken};
+
+    ghost next_gives = { LineTaken };
+
+    ghost remaining = { λ lines. at_most (length lines.file.now - lines.at) };
+
+    fn next(&mut self) -> Option<Line> {
+        if self.file.len() <= self.at {
+            return None;
+        }
+        let line = line_at(self.file, self.at);
+        self.at = line.next;
+        Some(line)
+    }
+}
+
+// Question 3: is the file made of whole lines, each a positive even number of digits? In one pass; `at` is where the first line
+// begins that is not known to be whole.
 pub(crate) fn whole(f: &[u8]) -> bool
     ensures { result ≡ is_whole_file f.now }
 {
     let mut at = 0;
-    // kept: a place that jumps by whole lines
+    // kept: document 01's form: nested loops over lines and their digits, left by a label at the first failing line
     // invariant: specs/Frames is_whole_file, of the file and of what is left; falls: bytes left
-    while at < f.len() {
-        let s = &f[at..];
-        let size = s.iter().position(|c| !is_digit(*c)).unwrap_or(s.len());
-        let Some(n) = line_end(&s[size..]) else {
-            return false;
+    'lines: while at < f.len() {
+        let mut end = at;
+        // invariant: proofs/WholeFiles DigitsUpTo; falls: bytes left
+        let n = loop {
+            if end < f.len() && is_digit(f[end]) {
+                end += 1;
+            } else if let Some(n) = line_end(&f[end..]) {
+                break n;
+            } else {
+                break 'lines;
+            }
         };
-        if size == 0 || size % 2 != 0 {
-            return false;
+        if end == at || (end - at) % 2 != 0 {
+            break 'lines;
         }
-        at += size + n;
+        at = end + n;
     }
-    true
+    at == f.len()
 }

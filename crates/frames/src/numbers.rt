@@ -24,6 +24,7 @@ fn digit_value(c: u8) -> usize
 }
 
 // The number of the `N` digits at `at`.
+// kept: read by hand, since the library's from_str_radix wants text and takes a sign
 pub fn number_at<const N: usize>(f: &[u8], at: usize) -> usize
     requires few { N ≤ 4 }
     requires inside { at + N ≤ length f.now }

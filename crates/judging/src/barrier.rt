@@ -14,6 +14,7 @@ ghost use Rattle.judging.specs.Barriers.{arc_allowed, all_entered};
 
 use arcs::graph::Graph;
 use arcs::node::mate_of;
+use formats::classes::{A, A_MATE, FIRST_PART, M};
 use skew::Arc;
 
 // The class of the mate of a node of this class.
@@ -21,12 +22,13 @@ fn mate_class(c: u8) -> u8
     ensures { result ≡ mate_class c }
 {
     match c {
-        1 => 2,
-        2 => 1,
+        A => A_MATE,
+        A_MATE => A,
         _ => c,
     }
 }
 
+// kept: node by node, as document 03 puts the question; by `chunks_exact(2)` the proof of what is answered did not close
 fn mates_agree(classes: &[u8]) -> bool
     requires { (length classes.now % 2 ≡ 0) × (length classes.now ≤ 256) }
     ensures { result ≡ all (mates_agree classes.now) (below (length classes.now)) }
@@ -38,14 +40,14 @@ fn mates_agree(classes: &[u8]) -> bool
 fn is_xi_or_m(c: u8) -> bool
     ensures { result ≡ isXM c }
 {
-    c >= 3 || c == 0
+    c >= FIRST_PART || c == M
 }
 
 // May an arc go from a node of class a to one of class b?
 fn classes_fit(a: u8, b: u8) -> bool
     ensures { result ≡ classes_fit a b }
 {
-    !(is_xi_or_m(a) && is_xi_or_m(b) && a != b) && !(a == 1 && (b == 2 || b == 0))
+    !(is_xi_or_m(a) && is_xi_or_m(b) && a != b) && !(a == A && (b == A_MATE || b == M))
 }
 
 #[tactic(auto, unfolding(crate::specs::Barriers::arc_allowed))]
@@ -53,12 +55,11 @@ fn arc_fits(arc: &Arc, classes: &[u8]) -> bool
     requires { (arc.now.tail < length classes.now) × (arc.now.head < length classes.now) }
     ensures { result ≡ arc_allowed classes.now arc.now }
 {
-    classes_fit(
-        classes[usize::from(arc.tail)],
-        classes[usize::from(arc.head)],
-    )
+    let (tail, head) = arc.ends();
+    classes_fit(classes[tail], classes[head])
 }
 
+// kept: arcs and classes with the fact that the arcs lead among so many nodes, in two functions only, here and in count_entries
 fn arcs_fit(arcs: &[Arc], classes: &[u8]) -> bool
     requires { Covers arcs.now (length classes.now) }
     ensures { result ≡ all (arc_fits classes.now) arcs.now }
@@ -67,6 +68,7 @@ fn arcs_fit(arcs: &[Arc], classes: &[u8]) -> bool
 }
 
 // How many arcs enter each class from A.
+// kept: 256 counters, one for each byte, since a class may be any
 fn count_entries(arcs: &[Arc], classes: &[u8]) -> [u16; 256]
     requires covers { Covers arcs.now (length classes.now) }
     requires arcs_few { length arcs.now ≤ arcs_most }
@@ -75,8 +77,9 @@ fn count_entries(arcs: &[Arc], classes: &[u8]) -> [u16; 256]
     let mut entries = [0u16; 256];
     // invariant: specs/Barriers Counting
     for arc in arcs {
-        if classes[usize::from(arc.tail)] == 1 {
-            entries[usize::from(classes[usize::from(arc.head)])] += 1;
+        let (tail, head) = arc.ends();
+        if classes[tail] == A {
+            entries[usize::from(classes[head])] += 1;
         }
     }
     entries
@@ -89,10 +92,11 @@ fn largest_class(classes: &[u8]) -> u8
 }
 
 // Is each class from 3 to the largest entered once?
+// kept: the classes are gone through as numbers; behind `take` and `skip` of the counters no number of a class would stand in the code
 fn all_entered(top: u8, entries: &[u16; 256]) -> bool
     ensures { result ≡ all_entered entries.now top }
 {
-    (3..=usize::from(top)).all(|c| entries[c] == 1)
+    (usize::from(FIRST_PART)..=usize::from(top)).all(|c| entries[c] == 1)
 }
 
 pub fn is_barrier(graph: &Graph<'_>, classes: &[u8]) -> bool
@@ -101,7 +105,7 @@ pub fn is_barrier(graph: &Graph<'_>, classes: &[u8]) -> bool
     if classes.len() != 2 * graph.pairs {
         return false; // not a class for each node
     }
-    classes[graph.source] == 1
+    classes[graph.source] == A
         && mates_agree(classes)
         && arcs_fit(graph.arcs, classes)
         && all_entered(largest_class(classes), &count_entries(graph.arcs, classes))

@@ -6,27 +6,28 @@ ghost use Rattle.arcs.specs.Table.{graph};
 ghost use Rattle.judging.specs.Walks.{PathLent};
 
 use arcs::node::mate_of;
-use formats::limits::ARCS_MOST;
+use formats::limits::{ARCS_MOST, NODES_MOST};
 use skew::Arc;
 
 // Each arc starts where the one before ended, at a node not seen before, and its mate was not used. Mates are told by their numbers.
 // The number of mate pairs plays no part.
+// kept: a source and arcs, since a Graph would ask more of callers, that the arcs are an arc table
 pub fn is_wanted(source: usize, arcs: &[Arc], path: &[u16]) -> bool
     requires { PathLent source arcs.now path.now }
     ensures { (n : ℕ) → result ≡ is_wanted (graph n source arcs.now) path.now }
 {
-    let mut seen = [false; 256];
+    let mut seen = [false; NODES_MOST];
     let mut used = [false; ARCS_MOST];
     seen[source] = true;
     let mut at = source;
     // invariant: specs/Walks Walking
-    for k in path {
-        let i = usize::from(*k);
-        let arc = &arcs[i];
-        if usize::from(arc.tail) != at {
+    for &k in path {
+        let i = usize::from(k);
+        let (tail, head) = arcs[i].ends();
+        if tail != at {
             return false; // not joined
         }
-        at = usize::from(arc.head);
+        at = head;
         if seen[at] {
             return false; // a node twice
         }

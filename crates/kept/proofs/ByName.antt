@@ -3,23 +3,27 @@
 --   without_gone        a name that was taken out is not kept
 --   without_other       what stands under another name stays
 --   without_fewer       no more entries are left; fewer where the name was kept
+--   placed_few          where question 19 lets a name pass, no more than eight are kept with it
 --   names_of            their names
 --   without_once        no name stands twice then either, nor does the one that was taken out stand there
 use mathlib.Core.Path.{◌≡◌, refl, sym, ap, ◌∙◌}
-use mathlib.Core.Logic.{◌≢◌, inl, inr}
-use mathlib.Core.Bool.{true, false, not}
+use mathlib.Core.Logic.{◌≢◌, inl, inr, ⊎_elim}
+use mathlib.Core.Bool.{true, false, ◌||◌, not}
 use mathlib.Core.List.{List, [], ◌∷◌, map}
-use Prim.Native.Nat.{ℕ, ◌≤◌, ◌<◌}
+use Prim.Native.Nat.{ℕ, suc, ◌≤◌, ◌<◌}
 use native.Mathlib.Omega.{arith}
-use lib.Dec.{eqb}
+use lib.Dec.{eqb, ltb}
 use lib.ListN.{length}
-use borrow.Author.Tests.{eqb-true, eq-eqb, ne_eqb, not-true}
+use borrow.Author.Tests.{eqb-true, eq-eqb, ne_eqb, not-true, ltb-true}
+use Rattle.formats.specs.Limits.{names_most}
 use Rattle.counting.specs.Tests.{any, keep}
 use Rattle.counting.specs.Lists.{In, Distinct}
-use Rattle.counting.proofs.Booleans.{by_test, true_false}
+use Rattle.counting.proofs.Booleans.{by_test, or_cases, true_false}
 use Rattle.counting.proofs.Membership.{any_some}
 use Rattle.counting.proofs.Kept.{in_keep, keep_distinct}
-use Rattle.kept.specs.State.{Named, is_named, without, pairs_under}
+use Rattle.frames.specs.Questions.{ask}
+use Rattle.frames.proofs.Questions.{accepted}
+use Rattle.kept.specs.State.{Named, State, is_named, is_kept, without, pairs_under, place_fault}
 
 pub kept_entry : (n : ℕ) (xs : List Named) → any (is_named n) xs ≡ true → (x : Named) × In x xs × (pairs_under n xs ≡ x.pairs)
 unfolding any pairs_under
@@ -53,6 +57,12 @@ without_fewer n (x ∷ xs) =
     let ih = without_fewer n xs in
     by_test (is_named n x) (λ t. rw t (omega (arith, ih.0), λ e. omega (arith, ih.0)))
     (λ t. rw t (omega (arith, ih.0), λ e. omega (arith, ih.1 e)))
+
+pub placed_few : (s : State) (n : ℕ) → length s.kept ≤ names_most → place_fault s n ≡ 0 → suc (length (without n s.kept)) ≤ names_most
+placed_few s n few e =
+    let fewer = without_fewer n s.kept in
+    ⊎_elim (λ t. omega (arith, fewer.1 t)) (λ t. omega (arith, fewer.0, ltb-true (length s.kept) names_most t))
+    (or_cases (is_kept s n) (ltb (length s.kept) names_most) (accepted 19 (ask 19 (is_kept s n || ltb (length s.kept) names_most) ∷ []) refl e))
 
 -- NAMES
 abbrev pub names_of : List Named → List ℕ

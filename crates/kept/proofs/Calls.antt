@@ -22,6 +22,7 @@ use Rattle.files.specs.PlanFile.{plan_fault}
 use Rattle.files.specs.Readers.{StockHeld, PlanRead}
 use Rattle.files.proofs.PlanFiles.{plan_held, plan_few}
 use Rattle.kept.specs.State.{KeptCall, bring, keep_as, forget, place_fault, fault_of, changed}
+use Rattle.kept.specs.declared.slot.Slot.{Slot}
 use Rattle.kept.specs.Block.{cameras_in, state_of, Owes}
 use Rattle.kept.specs.Slots.{StockPut, KeptPut, ClosedUp, NameFound, Stored}
 use Rattle.kept.proofs.Fronts.{kept_put}
@@ -65,6 +66,6 @@ module _ (b : List ℕ) (n : ℕ) {cameras number count : ℕ} {f : List ℕ} {f
         subst (λ (x : List ℕ). Owes b (keep_as n f) m x) (sym (s.untouched h)) (call_refused (keep_as n f) is h))
 
 -- FORGETTING
-pub forgot : (b : List ℕ) (n i : ℕ) {m c : List ℕ} {left : ℕ} → NameFound b n (Some i) → ClosedUp b n m left → KeptPut m left c → Owes b (forget n) 0 c
-forgot b n i {m} F closed put =
+pub forgot : (b : List ℕ) (n : ℕ) (s : Slot) {m c : List ℕ} {left : ℕ} → NameFound b n (Some s) → ClosedUp b n m left → KeptPut m left c → Owes b (forget n) 0 c
+forgot b n s {m} F closed put =
     call_accepted (forget n) (rw F.1) refl (kept_put b m closed.front put (omega (arith, closed.few)) ∙ rw closed.entries)

@@ -7,11 +7,10 @@ use mathlib.Core.List.{List, [], ◌∷◌}
 use Prim.Native.Nat.{ℕ, ◌+◌, ◌*◌, ◌≤◌, ◌<◌}
 use native.Mathlib.Omega.{arith}
 use lib.ListN.{length, get_or, set, take, drop}
-use lib.Seq.{get_or-take, get_or-set_same, get_or-set_other}
+use lib.Seq.{sets, get_or-take, get_or-set_same, get_or-set_other}
 use Rattle.formats.specs.Limits.{cameras_most, fits_most, names_most}
 use Rattle.counting.specs.declared.Pair.{Pair}
 use Rattle.counting.proofs.Parts.{part_front, part_set}
-use Rattle.frames.specs.Writes.{Written}
 use Rattle.kept.specs.Block.{kept_at, firsts_at, seconds_at, slots_at, slot_size, slot_at, block_size, cameras_in, fits_in, kept_in, entries_in, state_of}
 use Rattle.kept.specs.Columns.{ColumnsPut}
 use Rattle.kept.specs.Slots.{front_of, StockPut, KeptPut}
@@ -19,15 +18,15 @@ use Rattle.kept.proofs.PairColumns.{header_back, pairs_back}
 use Rattle.kept.proofs.Entries.{entries_same}
 
 -- A STOCK
-pub stock_put : {b b₁ b₂ : List ℕ} {fs : List Pair} {c high low k₁ n₁ : ℕ} → Written b 0 k₁ (c ∷ high ∷ low ∷ 0 ∷ []) b₁ n₁ →
+pub stock_put : (b : List ℕ) {b₁ b₂ : List ℕ} {fs : List Pair} (c high low : ℕ) → b₁ ≡ sets b 0 (c ∷ high ∷ low ∷ 0 ∷ []) →
     ColumnsPut b₁ firsts_at fits_most fs b₂ → 256 * high + low ≡ length fs → length b ≡ block_size → c ≤ cameras_most → length fs ≤ fits_most → StockPut c fs b₂
 unfolding entries_in
-stock_put {b₂ = b} {fs} {c} u v is whole few most =
-    let byte = header_back u v most (omega arith) in
+stock_put b₀ {b₂ = b} {fs} c high low u v is whole few most =
+    let byte = header_back b₀ 0 (c ∷ high ∷ low ∷ 0 ∷ []) u v most (omega arith) in
     let x : cameras_in b ≡ c = rw (byte 0 (omega arith)) (omega arith) in
     let y : fits_in b ≡ length fs = rw (byte 1 (omega arith), byte 2 (omega arith)) (omega arith) in
     let z : kept_in b ≡ 0 = rw (byte 3 (omega arith)) (omega arith) in
-    rw (x, y, z, pairs_back u v most (omega arith))
+    rw (x, y, z, pairs_back b₀ 0 (c ∷ high ∷ low ∷ 0 ∷ []) u v most (omega arith))
 
 -- THE NUMBER OF NAMES
 module _ (b c : List ℕ) (same : front_of c ≡ front_of b) where

@@ -1,24 +1,27 @@
 -- A name looked for among the entries, the last kept first.
 --   downward a n           the n numbers from a on, the largest first
 --   slots_downward         the slots are looked at in this order
---   OtherName b n i        slot i has another name
---   found_last             what is found by looking for the first that does not
---   found_named            some slot is found exactly if the name is kept
-use Rattle.std.proofs.Common.{◌≡◌, ◌≢◌, ℕ, zero, suc, ◌+◌, ◌-◌, ◌<◌, List, [], ◌∷◌, length, get_or, refl, sym, ap, subst, ◌∙◌, arith, zero-add}
-use Rattle.std.specs.Prelude.{true, false, Option, Some, None, MatchOption}
-use Rattle.std.specs.Option.{is_some}
-use Rattle.std.specs.List.{AllWithin, HoldsAt}
+--   has_name b n i         slot i has the name
+--   found_last             what is found by looking for the first that has
+--   place_asked            question 19, by the slot that is found
+use Rattle.std.proofs.Common.{◌≡◌, ℕ, zero, suc, ◌+◌, ◌-◌, ◌<◌, List, [], ◌∷◌, length, get_or, refl, ap, subst, ◌∙◌, arith, zero-add}
+use Rattle.std.specs.Prelude.{Bool, true, false, ◌||◌, eqb, ltb, Option, Some, None, MatchOption}
+use Rattle.std.specs.Option.{is_some, option_map}
+use Rattle.std.specs.List.{find}
 use Rattle.std.specs.declared.iter.Rev.{Rev}
 use Rattle.std.specs.declared.ops.Range.{Range}
 use Rattle.std.specs.Iterator.Adapters.{rev_source, rev_steps}
 use Rattle.std.proofs.lemmas.Iterator.{YieldsList}
 use Rattle.std.proofs.lemmas.Iterator.Consumers.{YieldsList-from_shown}
-use borrow.Author.Tests.{eq-eqb, ne_eqb}
+use Rattle.formats.specs.Limits.{names_most}
 use Rattle.counting.specs.Tests.{any}
-use Rattle.kept.specs.State.{is_named, is_kept, pairs_under}
-use Rattle.kept.specs.Block.{kept_in, slot_at, slot_of, named_in, entries_in, state_of}
+use Rattle.counting.proofs.Booleans.{by_test}
+use Rattle.frames.specs.Frames.{unless}
+use Rattle.kept.specs.declared.slot.Slot.{Slot}
+use Rattle.kept.specs.State.{is_named, is_kept, pairs_under, place_fault}
+use Rattle.kept.specs.Block.{kept_in, slot_at, named_in, entries_in, state_of}
 use Rattle.kept.specs.Slots.{NameFound}
-use Rattle.kept.proofs.Entries.{name_at}
+use Rattle.kept.proofs.Entries.{entries_length, name_at}
 
 -- THE ORDER
 unfoldable pub downward : (from size : ℕ) → List ℕ
@@ -55,38 +58,32 @@ slots_downward s {count} e =
 
 -- THE SLOT
 module _ (b : List ℕ) (n : ℕ) where
-  abbrev pub OtherName : (slot : ℕ) → Type 0
-  OtherName i = get_or b (slot_at i) 0 ≢ n
+  abbrev pub has_name : (slot : ℕ) → Bool
+  has_name i = eqb (get_or b (slot_at i) 0) n
 
-  none_named : (m : ℕ) → AllWithin OtherName (downward 0 m) 0 m → any (is_named n) (entries_in m b) ≡ false
-  unfolding downward entries_in any
-  none_named zero h = refl
-  none_named (suc m) h =
-      let first : OtherName m = rw zero-add at (h 0 0 (omega arith) (omega arith)) in
-      let x = ne_eqb (get_or (slot_of m b) 0 0) n (λ q. first (sym (name_at m b) ∙ q)) in
-      rw x (none_named m (λ k d a l. h (suc k) d (omega arith) (omega arith)))
+  abbrev FoundIn : (slots : ℕ) → (found : Option ℕ) → Type 0
+  FoundIn m None = any (is_named n) (entries_in m b) ≡ false
+  FoundIn m (Some i) = (i < m) × (any (is_named n) (entries_in m b) ≡ true) × (pairs_under n (entries_in m b) ≡ (named_in i b).pairs)
 
-  some_named : (m i x : ℕ) → i < m → HoldsAt (λ y. y ≡ x) (downward 0 m) i → AllWithin OtherName (downward 0 m) 0 i → get_or b (slot_at x) 0 ≡ n →
-      (x < m) × (any (is_named n) (entries_in m b) ≡ true) × (pairs_under n (entries_in m b) ≡ (named_in x b).pairs)
+  found_later : (m : ℕ) (r : Option ℕ) → is_named n (named_in m b) ≡ false → FoundIn m r → FoundIn (suc m) r
+  unfolding entries_in any pairs_under
+  found_later m None e f = rw e f
+  found_later m (Some i) e f = (omega (arith, f.0), rw e f.1, rw e f.2)
+
+  found_in : (m : ℕ) → FoundIn m (find has_name (downward 0 m))
   unfolding downward entries_in any pairs_under
-  some_named zero i x l t h y = absurd (omega arith)
-  some_named (suc m) zero x l t h y =
-      let e : x ≡ m = sym (rw zero-add at (t 0)) in
-      let z = eq-eqb (get_or (slot_of m b) 0 0) n (name_at m b ∙ (rw e at y)) in
-      (omega arith, rw z refl, rw (z, e) refl)
-  some_named (suc m) (suc i) x l t h y =
-      let first : OtherName m = rw zero-add at (h 0 0 (omega arith) (omega arith)) in
-      let z = ne_eqb (get_or (slot_of m b) 0 0) n (λ q. first (sym (name_at m b) ∙ q)) in
-      let r = some_named m i x (omega arith) t (λ k d a k_low. h (suc k) d (omega arith) (omega arith)) y in
-      (omega (arith, r.0), rw z r.1, rw z r.2)
+  found_in zero = refl
+  found_in (suc m) =
+      let same : is_named n (named_in m b) ≡ has_name m = rw (name_at m b) in
+      by_test (has_name m) (λ t. rw (zero-add, t) (omega arith, rw (same, t), rw (same, t))) (λ t. rw (zero-add, t) (found_later m _ (same ∙ t) (found_in m)))
 
-  pub found_last : (r : Option ℕ) →
-      MatchOption r (AllWithin OtherName (downward 0 (kept_in b)) 0 (length (downward 0 (kept_in b))))
-      (λ x. (get_or b (slot_at x) 0 ≡ n) × (i : ℕ) × (i < length (downward 0 (kept_in b))) × HoldsAt (λ y. y ≡ x) (downward 0 (kept_in b)) i ×
-      AllWithin OtherName (downward 0 (kept_in b)) 0 i) → NameFound b n r
-  found_last None h = none_named (kept_in b) (rw (downward_long 0 (kept_in b)) at h)
-  found_last (Some x) h = some_named (kept_in b) h.1 x (omega (arith, h.2, downward_long 0 (kept_in b))) h.3 h.4 h.0
+  pub found_last : (r : Option Slot) → option_map (λ (s : Slot). s.number) r ≡ find has_name (downward 0 (kept_in b)) → NameFound b n r
+  found_last None e = rw (← e) at (found_in (kept_in b))
+  found_last (Some s) e = rw (← e) at (found_in (kept_in b))
 
-  pub found_named : (r : Option ℕ) → NameFound b n r → is_kept (state_of b) n ≡ is_some r
+  found_named : (r : Option Slot) → NameFound b n r → is_kept (state_of b) n ≡ is_some r
   found_named None f = f
-  found_named (Some i) f = f.1
+  found_named (Some s) f = f.1
+
+  pub place_asked : (r : Option Slot) → NameFound b n r → place_fault (state_of b) n ≡ unless (is_some r || ltb (kept_in b) names_most) 19
+  place_asked r f = rw (found_named r f, entries_length (kept_in b) b)

@@ -3,25 +3,25 @@
 --   reached_sound    every such state is sound
 use mathlib.Core.Path.{◌≡◌, refl}
 use mathlib.Core.Logic.{⊎_elim}
-use mathlib.Core.Bool.{true, ◌||◌, not}
+use mathlib.Core.Bool.{true, not}
 use mathlib.Core.List.{List, [], ◌∷◌}
-use Prim.Native.Nat.{ℕ, suc, ◌≤◌}
+use Prim.Native.Nat.{ℕ, ◌≤◌}
 use native.Mathlib.Omega.{arith}
-use lib.Dec.{eqb, ltb}
+use lib.Dec.{eqb}
 use lib.ListN.{length}
-use borrow.Author.Tests.{eqb-true, ltb-true}
+use borrow.Author.Tests.{eqb-true}
 use Rattle.formats.specs.Limits.{cameras_most, names_most}
 use Rattle.counting.specs.Lists.{In, Distinct}
-use Rattle.counting.proofs.Booleans.{or_cases, by_test}
+use Rattle.counting.proofs.Booleans.{by_test}
 use Rattle.counting.proofs.Kept.{in_keep}
-use Rattle.frames.specs.Questions.{ask, first_no}
-use Rattle.frames.proofs.Questions.{or_none, first_none, accepted}
+use Rattle.frames.specs.Questions.{first_no}
+use Rattle.frames.proofs.Questions.{or_none, first_none}
 use Rattle.matching.specs.Stock.{pairs_rise}
 use Rattle.files.specs.PlanFile.{plan_pairs, plan_shape, pairing_questions, plan_fault}
 use Rattle.files.proofs.AcceptedFiles.{stock_few, accepted_stock}
-use Rattle.kept.specs.State.{Named, State, power_on, is_named, is_kept, without, KeptCall, bring, keep_as, come_back, forget, place_fault, fault_of, changed, after, after_calls}
+use Rattle.kept.specs.State.{Named, State, power_on, is_named, without, KeptCall, bring, keep_as, come_back, forget, place_fault, fault_of, changed, after, after_calls}
 use Rattle.kept.specs.Promise.{reached}
-use Rattle.kept.proofs.ByName.{without_fewer, names_of, without_once}
+use Rattle.kept.proofs.ByName.{without_fewer, placed_few, names_of, without_once}
 
 pub record Sound (s : State) : Type 0 where
   pub few : length s.kept ≤ names_most
@@ -35,13 +35,6 @@ module _ (s : State) (S : Sound s) where
   left_asked : (n : ℕ) (x : Named) → In x (without n s.kept) → first_no (pairing_questions s.cameras s.fits x.pairs) ≡ 0
   left_asked n x m = S.pairings x (in_keep (λ (y : Named). not (is_named n y)) s.kept x m).0
 
-  placed_few : (n : ℕ) → place_fault s n ≡ 0 → suc (length (without n s.kept)) ≤ names_most
-  placed_few n e =
-      let fewer = without_fewer n s.kept in
-      let few = S.few in
-      ⊎_elim (λ t. omega (arith, fewer.1 t)) (λ t. omega (arith, fewer.0, ltb-true (length s.kept) names_most t))
-      (or_cases (is_kept s n) (ltb (length s.kept) names_most) (accepted 19 (ask 19 (is_kept s n || ltb (length s.kept) names_most) ∷ []) refl e))
-
   sound_changed : (k : KeptCall) → fault_of s k ≡ 0 → Sound (changed s k)
   sound_changed (bring f) e =
       record {
@@ -54,7 +47,7 @@ module _ (s : State) (S : Sound s) where
   sound_changed (keep_as n f) e =
       let none = or_none (plan_fault s.cameras s.fits f) (place_fault s n) e in
       record {
-        few = placed_few n none.1;
+        few = placed_few s n S.few none.1;
         once = without_once n s.kept S.once;
         stocked = S.stocked;
         rising = S.rising;

@@ -13,6 +13,7 @@ use Rattle.std.specs.Prelude.{◌≡◌, ◌≢◌, true, false, Option, Some, N
 use Rattle.counting.specs.Tests.{pick}
 use Rattle.counting.specs.declared.Pair.{Pair}
 use Rattle.kept.specs.State.{is_named, is_kept, without, pairs_under, place_fault}
+use Rattle.kept.specs.declared.slot.Slot.{Slot}
 use Rattle.kept.specs.Block.{kept_at, slots_at, kept_in, slot_of, named_in, entries_in, state_of}
 
 abbrev pub front_of : (block : List ℕ) → List ℕ
@@ -52,9 +53,9 @@ pub record PairsPut (b : List ℕ) (to n : ℕ) (ps : List Pair) (then : List �
   pub entries : entries_in (suc to) then ≡ record { name = n; pairs = ps } ∷ entries_in to b
   pub front : front_of then ≡ front_of b
 
-abbrev pub NameFound : (block : List ℕ) → (name : ℕ) → (found : Option ℕ) → Type 0
+abbrev pub NameFound : (block : List ℕ) → (name : ℕ) → (found : Option Slot) → Type 0
 NameFound b n None = is_kept (state_of b) n ≡ false
-NameFound b n (Some i) = (i < kept_in b) × (is_kept (state_of b) n ≡ true) × (pairs_under n (state_of b).kept ≡ (named_in i b).pairs)
+NameFound b n (Some s) = (s.number < kept_in b) × (is_kept (state_of b) n ≡ true) × (pairs_under n (state_of b).kept ≡ (named_in s.number b).pairs)
 
 pub record Stored (b : List ℕ) (n : ℕ) (ps : List Pair) (number : ℕ) (then : List ℕ) : Type 0 where
   pub says : number ≡ place_fault (state_of b) n

@@ -17,6 +17,8 @@ pub struct Columns {
 
 impl Columns {
     // The first so many pairs, at the front of the slice: how many they are.
+    // kept: a count, as pair_up answers it; no contract can say what a slice holds once its `&mut` went into the result, as a part of it would
+    #[tactic(auto, using(crate::proofs::PairColumns::column_parts, crate::proofs::PairColumns::columns_few))]
     pub fn read(self, state: &[u8; STATE], count: usize, pairs: &mut [Pair]) -> usize
         requires few { count ≤ self.most }
         requires room { count ≤ length pairs.old }
@@ -34,6 +36,7 @@ impl Columns {
         requires { length pairs.now ≤ self.most }
         ensures { ColumnsPut state.old self.at self.most pairs.now state.new }
     {
+        // kept: by the index: a slot's 63 pairs take 241 instructions, by a loop for each column 331; behind a zip of two iter_mut a proof knows nothing
         // invariant: proofs/PairColumns Putting
         for (i, pair) in pairs.iter().enumerate() {
             state[self.at + i] = pair.first;

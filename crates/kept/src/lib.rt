@@ -6,13 +6,17 @@
 //   keep         the pairs of a plan file, kept under a name
 //   come_back    the pairs last kept under a name, in plan frames
 //   forget       a name and its pairs
-//   columns      pairs as they stand in the block
-//   numbers      the block's numbers, and its fits
+//   bytes        bytes put into the block
+//   columns      pairs as they stand in it
+//   numbers      its numbers, and its fits
+//   slot         one of its slots
 //   slots        its slots: found, closed up and filled
 #![tactic(auto)]
 
+mod bytes;
 mod columns;
 mod numbers;
+mod slot;
 mod slots;
 
 ghost use Rattle.std.specs.Prelude.{◌≡◌, ◌≤◌, length, replicate};
@@ -22,11 +26,12 @@ ghost use Rattle.lanes.specs.Entry.{told_of};
 ghost use Rattle.kept.specs.State.{bring, keep_as, come_back, forget};
 ghost use Rattle.kept.specs.Block.{block_size, Owes, Returns};
 
-use counting::NO_PAIR;
+use counting::Pair;
 use files::plans::read_plan;
 use files::stocks::read_stock;
 use formats::limits::{FITS_MOST, LINES_MOST, PLAN_PAIRS_MOST, ROOM};
 use formats::refusals::Refusal;
+use frames::ask::ask;
 use numbers::{cameras_in, put_kept, put_stock, read_fits};
 use slots::{close_up, find, store, write_pairs};
 
@@ -42,8 +47,9 @@ pub fn power_on(state: &mut [u8; STATE])
 pub fn bring(state: &mut [u8; STATE], file: &[u8]) -> Result<(), Refusal>
     ensures { Owes state.old (bring file.now) (refusal_in result) state.new }
 {
-    let mut fits = [NO_PAIR; FITS_MOST];
-    let mut lit = [NO_PAIR; LINES_MOST];
+    // kept: the arrays that the stock calls make too, which say why (lanes::stock_calls)
+    let mut fits = [Pair::default(); FITS_MOST];
+    let mut lit = [Pair::default(); LINES_MOST];
     let stock = read_stock(file, &mut fits, &mut lit)?;
     put_stock(state, stock.cameras, &fits[..stock.fits]);
     Ok(())
@@ -52,9 +58,9 @@ pub fn bring(state: &mut [u8; STATE], file: &[u8]) -> Result<(), Refusal>
 pub fn keep(state: &mut [u8; STATE], name: u8, file: &[u8]) -> Result<(), Refusal>
     ensures { Owes state.old (keep_as name file.now) (refusal_in result) state.new }
 {
-    let mut fits = [NO_PAIR; FITS_MOST];
+    let mut fits = [Pair::default(); FITS_MOST];
     let fits_count = read_fits(state, &mut fits);
-    let mut pairs = [NO_PAIR; PLAN_PAIRS_MOST];
+    let mut pairs = [Pair::default(); PLAN_PAIRS_MOST];
     let count = read_plan(file, cameras_in(state), &fits[..fits_count], &mut pairs)?;
     store(state, name, &pairs[..count])
 }
@@ -63,9 +69,8 @@ pub fn come_back(state: &[u8; STATE], name: u8, out: &mut [u8]) -> Result<usize,
     ensures returns { Returns state.now (come_back name (length out.old)) out.old (told_of result) out.new }
     ensures small { value_or 0 result ≤ room }
 {
-    if out.len() < ROOM {
-        return Err(Refusal::Room);
-    }
+    // kept: the room asked for as in lanes::calls::ask_call, which asks for a caller first; these calls name none
+    ask(ROOM <= out.len(), Refusal::Room)?;
     let slot = find(state, name).ok_or(Refusal::NotKept)?;
     Ok(write_pairs(state, slot, out))
 }

@@ -11,10 +11,10 @@ ghost use Rattle.kept.specs.Columns.{ColumnsRead};
 ghost use Rattle.kept.specs.Slots.{StockPut, KeptPut};
 
 use crate::STATE;
+use crate::bytes::put_bytes;
 use crate::columns::Columns;
 use counting::Pair;
 use formats::limits::{CAMERAS_MOST, FITS_MOST, NAMES_MOST};
-use frames::write::put_text;
 
 const KEPT: usize = 3;
 
@@ -50,15 +50,18 @@ pub fn put_kept(state: &mut [u8; STATE], kept: usize)
     requires { kept ≤ names_most }
     ensures { KeptPut state.old kept state.new }
 {
+    // kept: `as` to fewer bits, in this file and in slots.rt, since there is no From to fewer, and try_from asks anew what is proved
     state[KEPT] = kept as u8;
 }
 
+// kept: cameras and fits side by side, here and as read_plan takes them, since a stock without lit pairs is no Stock
+#[tactic(auto, using(crate::proofs::Fronts::stock_put))]
 pub fn put_stock(state: &mut [u8; STATE], cameras: usize, fits: &[Pair])
     requires cameras_le_cameras_most { cameras ≤ cameras_most }
     requires fits_len_bound { length fits.now ≤ fits_most }
     ensures { StockPut cameras fits.now state.new }
 {
     let [high, low] = (fits.len() as u16).to_be_bytes();
-    put_text(state, 0, &[cameras as u8, high, low, 0]);
+    put_bytes(state, 0, &[cameras as u8, high, low, 0]);
     FITS.put(state, fits);
 }

@@ -1,20 +1,20 @@
 -- What the budgeted call answers: as the stock call does (StockCalls), with the searches that were run.
 --   budget_few           a pairing of at most 63 pairs is handed out
 --   budget_written       what is written is what is owed of the stock
---   most_fault_lem, file_fault     past 17 and 1: question 15 is answered no; it is answered yes, and the others are the file's
+--   most_refused, file_fault     past 17 and 1: question 15 is answered no; it is answered yes, and the others are the file's
 --   budget_refused       what a refused call owes
 --   budget_answered      what an answered call owes
+--   as_answer            a call's answer as a stock's: it tells the same, and comes to the same
 use mathlib.Core.Path.{◌≡◌, refl, sym, subst, ◌∙◌}
 use mathlib.Core.Bool.{true, false}
 use mathlib.Core.List.{List}
-use Prim.Native.Nat.{ℕ, ◌-◌, ◌*◌, ◌/◌, ◌≤◌, ◌<◌}
+use Prim.Native.Nat.{ℕ, ◌-◌, ◌*◌, ◌/◌, ◌≤◌}
 use native.Mathlib.Omega.{arith}
 use lib.Dec.{eqb}
-use borrow.Author.Tests.{ne_eqb, le-leb, lt-leb}
+use borrow.Author.Tests.{ne_eqb}
 use lib.ListN.{length, take}
-use Rattle.std.specs.Prelude.{Result, Ok}
-use Rattle.std.specs.Result.{IsErrAnd}
-use Rattle.std.proofs.lemmas.Result.{err_from_is_err_and}
+use Rattle.std.specs.Prelude.{Result, Ok, Err, MatchResult, IsOkAnd}
+use Rattle.std.specs.Result.{IsErr, IsErrAnd}
 use Rattle.formats.specs.Limits.{cameras_most, searches_most}
 use Rattle.formats.specs.Refusals.{refusal_number}
 use Rattle.formats.specs.declared.refusals.Refusal.{Refusal}
@@ -31,12 +31,14 @@ use Rattle.pairing.specs.declared.plan.PairsFound.{PairsFound}
 use Rattle.pairing.proofs.ListedPairs.{listed_few, listed_read}
 use Rattle.files.specs.StockFile.{stock_in, stock_fault, budget_text}
 use Rattle.files.specs.Answers.{WrittenFirst}
-use Rattle.frames.proofs.Questions.{refusal_some}
+use Rattle.frames.proofs.Questions.{or_go, refusal_some, passed_on}
 use Rattle.files.proofs.AnswerLines.{budget_size}
-use Rattle.lanes.specs.Entry.{most_fault, budget_fault, budget_text_of}
-use Rattle.lanes.specs.Calls.{CallPasses}
+use Rattle.lanes.specs.Entry.{searched_of, most_fault, budget_fault, budget_text_of}
+use Rattle.lanes.specs.Calls.{told_in, outcome_in, stock_answer, stock_answered, CallAsked}
 use Rattle.lanes.specs.BudgetCalls.{BudgetWritten, BudgetAnswered}
+use Rattle.lanes.specs.declared.Answer.{Answer}
 use Rattle.lanes.specs.declared.Searched.{Searched}
+use Rattle.lanes.proofs.CallFaults.{refused_first, call_passes}
 use Rattle.lanes.proofs.StockCalls.{pairs_few}
 
 -- WRITTEN
@@ -65,19 +67,18 @@ module _ {most : ℕ} {s : Stock} {xs ys : List Pair} {r : PairsFound} (T : Stoc
       }
 
 -- THE CALL
-module _ {c n : ℕ} (P : CallPasses c n) (b : ℕ) (f : List ℕ) where
-  pub most_fault_lem : searches_most < b → budget_fault c b f n ≡ 15
-  most_fault_lem h = P.others (or_else (most_fault b) (stock_fault f)) ∙ rw (lt-leb b searches_most h)
+module _ {c n : ℕ} {u : Unit} (A : CallAsked c n (Ok u)) (b : ℕ) (f : List ℕ) where
+  pub most_refused : (e : Refusal) → refusal_number e ≡ most_fault b → budget_fault c b f n ≡ refusal_number e
+  most_refused e is = call_passes A (or_else (most_fault b) (stock_fault f)) ∙ refused_first e is (stock_fault f)
 
-  pub file_fault : b ≤ searches_most → budget_fault c b f n ≡ stock_fault f
-  file_fault h = P.others (or_else (most_fault b) (stock_fault f)) ∙ rw (le-leb b searches_most h)
+  pub file_fault : 0 ≡ most_fault b → budget_fault c b f n ≡ stock_fault f
+  file_fault none = call_passes A (or_else (most_fault b) (stock_fault f)) ∙ or_go (most_fault b) (stock_fault f) (sym none)
 
 module _ {c b : ℕ} {f o : List ℕ} where
-  pub budget_refused : (r : Result Searched Refusal) (e : Refusal) → IsErrAnd r (λ d. d ≡ e) → budget_fault c b f (length o) ≡ refusal_number e → BudgetAnswered c b f o r o
+  pub budget_refused : (r : Result Searched Refusal) (e : Refusal) → IsErr r × IsErrAnd r (λ d. d ≡ e) → budget_fault c b f (length o) ≡ refusal_number e → BudgetAnswered c b f o r o
   budget_refused r e q is =
-      let p = err_from_is_err_and r q in
       let z : eqb (refusal_number e) 0 ≡ false = ne_eqb (refusal_number e) 0 (refusal_some e) in
-      rw (p.1, p.2)
+      rw (passed_on q)
       (record {
         owes = (λ _. (rw (is, z), refl), λ y. absurd (refusal_some e (sym is ∙ y)));
         outcome = rw (is, z);
@@ -85,10 +86,16 @@ module _ {c b : ℕ} {f o : List ℕ} where
         few = omega arith;
       })
 
-  pub budget_answered : {s : Stock} → stock_fault f ≡ 0 → s ≡ stock_in f → CallPasses c (length o) → b ≤ searches_most → {after : List ℕ} {r : Searched} →
+  pub budget_answered : {u : Unit} {s : Stock} → stock_fault f ≡ 0 → s ≡ stock_in f → CallAsked c (length o) (Ok u) → 0 ≡ most_fault b → {after : List ℕ} {r : Searched} →
       BudgetWritten b s o after r → BudgetAnswered c b f o (Ok r) after
-  budget_answered none is P few {after} {r} w =
+  budget_answered none is A few {after} {r} w =
       let v = subst (λ (s : Stock). BudgetWritten b s o after r) is w in
-      let e : budget_fault c b f (length o) ≡ 0 = file_fault P b f few ∙ none in
+      let e : budget_fault c b f (length o) ≡ 0 = file_fault A b f few ∙ none in
       let z : eqb (budget_fault c b f (length o)) 0 ≡ true = rw e in
       record { owes = (λ y. true_false z y, λ _. (v.pairs, (v.budgeted, v.told, v.leaves))); outcome = rw z; small = v.small; few = v.few }
+
+pub as_answer : (r : Result Searched Refusal) (q : Result Answer Refusal) → MatchResult r (λ x. IsOkAnd q (λ a. a ≡ stock_answer x)) (λ e. q ≡ Err e) →
+    (told_in q ≡ (searched_of r).told) × (outcome_in q ≡ outcome_in (stock_answered r))
+as_answer (Ok x) (Ok a) h = rw h (refl, refl)
+as_answer (Ok x) (Err e) h = absurd h
+as_answer (Err e) q h = rw h (refl, refl)

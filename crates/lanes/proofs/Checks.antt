@@ -12,7 +12,7 @@ use native.Mathlib.Omega.{arith}
 use lib.Dec.{eqb}
 use borrow.Author.Tests.{ne_eqb, eqb-true, eqb-false}
 use Rattle.std.specs.Prelude.{Result, Ok, Err, MatchResult}
-use Rattle.std.specs.Result.{IsErrAnd}
+use Rattle.std.specs.Result.{IsErr, IsErrAnd}
 use Rattle.std.proofs.lemmas.Result.{err_from_is_err_and}
 use Rattle.formats.specs.Refusals.{refusal_number}
 use Rattle.formats.specs.declared.refusals.Refusal.{Refusal}
@@ -22,7 +22,7 @@ use Rattle.frames.proofs.Questions.{or_stop, or_go}
 use Rattle.skew.specs.Graph.{Graph, is_wanted, is_barrier}
 use Rattle.files.specs.GraphFile.{graph_in, graph_fault}
 use Rattle.files.specs.CertificateFile.{path_arcs, path_fault, barrier_classes, cert_fault, cert_holds}
-use Rattle.frames.proofs.Questions.{refusal_some}
+use Rattle.frames.proofs.Questions.{refusal_some, passed_on}
 use Rattle.files.proofs.FirstLines.{begins_other, cert_barrier, cert_path, path_file}
 use Rattle.lanes.specs.Entry.{Verdict, Refused, verdict_of, check_fault, check_post}
 use Rattle.lanes.specs.declared.CheckRefusal.{CheckRefusal}
@@ -33,8 +33,8 @@ use Rattle.lanes.specs.Verdicts.{certificate_told, verdict_by, cert_number, path
 verdict_refused : (n : ℕ) (z : Bool) → n ≢ 0 → Refused (40 + n) ≡ verdict_by (cert_number n) z
 verdict_refused n z h = rw (ne_eqb n 0 h, ne_eqb (40 + n) 0 (λ q. omega arith))
 
-pub refused : (r : Result Bool Refusal) (e : Refusal) {n : ℕ} (z : Bool) → IsErrAnd r (λ d. d ≡ e) → refusal_number e ≡ n → certificate_told r ≡ verdict_by (cert_number n) z
-refused r e {n} z q says = let p = err_from_is_err_and r q in rw (p.1, p.2, says) (verdict_refused n z (λ y. refusal_some e (says ∙ y)))
+pub refused : (r : Result Bool Refusal) (e : Refusal) {n : ℕ} (z : Bool) → IsErr r × IsErrAnd r (λ d. d ≡ e) → refusal_number e ≡ n → certificate_told r ≡ verdict_by (cert_number n) z
+refused r e {n} z q says = rw (passed_on q, says) (verdict_refused n z (λ y. refusal_some e (says ∙ y)))
 
 pub judged : {n : ℕ} {holds z : Bool} → 0 ≡ n → holds ≡ z → certificate_told (Ok holds) ≡ verdict_by (cert_number n) z
 judged says is = rw (← says, is)

@@ -10,8 +10,7 @@ use lib.Dec.{eqb}
 use borrow.Author.Tests.{eqb-true, ne_eqb}
 use lib.ListN.{length, take, length-append, length-take}
 use Rattle.std.specs.Prelude.{Result, Ok}
-use Rattle.std.specs.Result.{IsErrAnd}
-use Rattle.std.proofs.lemmas.Result.{err_from_is_err_and}
+use Rattle.std.specs.Result.{IsErr, IsErrAnd}
 use Rattle.formats.specs.Refusals.{refusal_number}
 use Rattle.formats.specs.declared.refusals.Refusal.{Refusal}
 use Rattle.counting.proofs.Booleans.{and_left, and_right, true_false}
@@ -25,9 +24,10 @@ use Rattle.skew.proofs.Promise.{reaches_by_paths}
 use Rattle.files.specs.GraphFile.{graph_in, graph_fault}
 use Rattle.files.specs.CertificateFile.{path_lines, path_text, class_lines, barrier_text}
 use Rattle.files.specs.Answers.{WrittenFirst}
-use Rattle.frames.proofs.Questions.{refusal_some}
+use Rattle.frames.proofs.Questions.{refusal_some, passed_on}
 use Rattle.lanes.specs.Entry.{answer_fault}
-use Rattle.lanes.specs.Calls.{CallPasses}
+use Rattle.lanes.specs.Calls.{CallAsked}
+use Rattle.lanes.proofs.CallFaults.{call_passes}
 use Rattle.lanes.specs.GraphCalls.{GraphWritten, GraphAnswered}
 use Rattle.lanes.specs.declared.Answer.{Answer}
 use Rattle.lanes.specs.declared.Outcome.TheVariants as outcome
@@ -81,17 +81,16 @@ module _ {g : Graph} (T : ArcTable g) {before after : List ℕ} {size : ℕ} whe
 
 -- THE CALL
 module _ {c : ℕ} {f o : List ℕ} where
-  pub graph_refused : (r : Result Answer Refusal) (e : Refusal) → IsErrAnd r (λ d. d ≡ e) → answer_fault c f (length o) ≡ refusal_number e → GraphAnswered c f o r o
+  pub graph_refused : (r : Result Answer Refusal) (e : Refusal) → IsErr r × IsErrAnd r (λ d. d ≡ e) → answer_fault c f (length o) ≡ refusal_number e → GraphAnswered c f o r o
   graph_refused r e q is =
-      let p = err_from_is_err_and r q in
       let z : eqb (refusal_number e) 0 ≡ false = ne_eqb (refusal_number e) 0 (refusal_some e) in
-      rw (p.1, p.2)
+      rw (passed_on q)
       (record { owes = (λ _. (rw (is, z), refl), λ y. absurd (refusal_some e (sym is ∙ y))); outcome = rw (is, z); small = omega arith })
 
-  pub graph_answered : {g : Graph} → graph_fault f ≡ 0 → g ≡ graph_in f → CallPasses c (length o) → {after : List ℕ} {r : Answer} →
+  pub graph_answered : {u : Unit} {g : Graph} → graph_fault f ≡ 0 → g ≡ graph_in f → CallAsked c (length o) (Ok u) → {after : List ℕ} {r : Answer} →
       GraphWritten g o after r → GraphAnswered c f o (Ok r) after
-  graph_answered none is P {after} {r} w =
+  graph_answered none is A {after} {r} w =
       let v = subst (λ (g : Graph). GraphWritten g o after r) is w in
-      let e : answer_fault c f (length o) ≡ 0 = P.others (graph_fault f) ∙ none in
+      let e : answer_fault c f (length o) ≡ 0 = call_passes A (graph_fault f) ∙ none in
       let z : eqb (answer_fault c f (length o)) 0 ≡ true = rw e in
       record { owes = (λ y. true_false z y, λ _. (v.barrier, v.path)); outcome = rw z v.outcome; small = v.small }

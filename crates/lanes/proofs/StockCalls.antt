@@ -11,8 +11,7 @@ use lib.Dec.{eqb}
 use borrow.Author.Tests.{ne_eqb}
 use lib.ListN.{length, take}
 use Rattle.std.specs.Prelude.{Result, Ok}
-use Rattle.std.specs.Result.{IsErrAnd}
-use Rattle.std.proofs.lemmas.Result.{err_from_is_err_and}
+use Rattle.std.specs.Result.{IsErr, IsErrAnd}
 use Rattle.formats.specs.Limits.{cameras_most}
 use Rattle.formats.specs.Refusals.{refusal_number}
 use Rattle.formats.specs.declared.refusals.Refusal.{Refusal}
@@ -24,10 +23,11 @@ use Rattle.pairing.specs.Plan.{PlanMarked}
 use Rattle.pairing.proofs.ListedPairs.{plan_pairing, plan_greatest, listed_few, listed_read}
 use Rattle.files.specs.StockFile.{sheet_with, sheet_text, stock_in, stock_fault, plan_text, plan_and_sheet}
 use Rattle.files.specs.Answers.{WrittenFirst}
-use Rattle.frames.proofs.Questions.{refusal_some}
+use Rattle.frames.proofs.Questions.{refusal_some, passed_on}
 use Rattle.files.proofs.SheetBytes.{sheet_found, plan_sheet_size}
 use Rattle.lanes.specs.Entry.{stock_call_fault}
-use Rattle.lanes.specs.Calls.{CallPasses}
+use Rattle.lanes.specs.Calls.{CallAsked}
+use Rattle.lanes.proofs.CallFaults.{call_passes}
 use Rattle.lanes.specs.StockCalls.{StockWritten, StockAnswered}
 use Rattle.lanes.specs.declared.Answer.{Answer}
 use Rattle.lanes.specs.declared.Outcome.TheVariants as outcome
@@ -64,17 +64,16 @@ module _ {s : Stock} {xs ys : List Pair} {ms : List ℕ} {r : ℕ} (T : StockTab
 
 -- THE CALL
 module _ {c : ℕ} {f o : List ℕ} where
-  pub stock_refused : (r : Result Answer Refusal) (e : Refusal) → IsErrAnd r (λ d. d ≡ e) → stock_call_fault c f (length o) ≡ refusal_number e → StockAnswered c f o r o
+  pub stock_refused : (r : Result Answer Refusal) (e : Refusal) → IsErr r × IsErrAnd r (λ d. d ≡ e) → stock_call_fault c f (length o) ≡ refusal_number e → StockAnswered c f o r o
   stock_refused r e q is =
-      let p = err_from_is_err_and r q in
       let z : eqb (refusal_number e) 0 ≡ false = ne_eqb (refusal_number e) 0 (refusal_some e) in
-      rw (p.1, p.2)
+      rw (passed_on q)
       (record { owes = (λ _. (rw (is, z), refl), λ y. absurd (refusal_some e (sym is ∙ y))); outcome = rw (is, z); small = omega arith })
 
-  pub stock_answered : {s : Stock} → stock_fault f ≡ 0 → s ≡ stock_in f → CallPasses c (length o) → {after : List ℕ} {r : Answer} →
+  pub stock_answered : {u : Unit} {s : Stock} → stock_fault f ≡ 0 → s ≡ stock_in f → CallAsked c (length o) (Ok u) → {after : List ℕ} {r : Answer} →
       StockWritten s o after r → StockAnswered c f o (Ok r) after
-  stock_answered none is P {after} {r} w =
+  stock_answered none is A {after} {r} w =
       let v = subst (λ (s : Stock). StockWritten s o after r) is w in
-      let e : stock_call_fault c f (length o) ≡ 0 = P.others (stock_fault f) ∙ none in
+      let e : stock_call_fault c f (length o) ≡ 0 = call_passes A (stock_fault f) ∙ none in
       let z : eqb (stock_call_fault c f (length o)) 0 ≡ true = rw e in
       record { owes = (λ y. true_false z y, λ _. (v.pairs, (v.plan, v.answers))); outcome = rw z v.outcome; small = v.small }

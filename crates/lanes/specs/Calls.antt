@@ -1,13 +1,11 @@
 -- What the calls by value share (document 01, "Questions put to a call"): the questions before a file's, and what a result tells and comes to.
 --   CallAsked caller size r          17, then 1, refuse, or neither does
---   CallPasses caller size           neither refuses: what else is asked decides, and there is room
 --   no_answer                        what is written beside a refusal: nothing
 --   told_in r                        a call's result, as it is told
 --   outcome_in r                     what it comes to
 --   stock_answer a                   a budgeted call's answer, as a stock's
 --   stock_answered r                 its result so
-use Rattle.std.specs.Prelude.{◌≡◌, Result, Ok, Err, ℕ, ◌≤◌}
-use Rattle.formats.specs.Limits.{room}
+use Rattle.std.specs.Prelude.{◌≡◌, Result, Ok, Err, ℕ}
 use Rattle.formats.specs.Refusals.{refusal_in, value_or}
 use Rattle.formats.specs.declared.refusals.Refusal.{Refusal}
 use Rattle.lanes.specs.Entry.{call_fault, Told}
@@ -18,10 +16,6 @@ use Rattle.lanes.specs.declared.Outcome.TheVariants as outcome
 
 pub record CallAsked (caller size : ℕ) (r : Result Unit Refusal) : Type 0 where
   pub is : refusal_in r ≡ call_fault caller size 0
-
-pub record CallPasses (caller size : ℕ) : Type 0 where
-  pub others : (number : ℕ) → call_fault caller size number ≡ number
-  pub roomy : room ≤ size
 
 abbrev pub no_answer : Answer
 no_answer = record { size = 0; outcome = outcome.Refusal }

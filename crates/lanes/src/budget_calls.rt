@@ -9,11 +9,12 @@ ghost use Rattle.pairing.specs.Lent.{stock_of};
 ghost use Rattle.lanes.specs.BudgetCalls.{BudgetWritten, BudgetAnswered};
 
 use crate::Searched;
-use crate::calls::{ask, stock_in};
-use counting::NO_PAIR;
+use crate::calls::{ask_call, stock_in};
+use counting::Pair;
 use files::answers::put_budget;
 use formats::limits::{CAMERAS_MOST, FITS_MOST, LINES_MOST, SEARCHES_MOST};
 use formats::refusals::Refusal;
+use frames::ask::ask;
 use pairing::plan::{PairsFound, budget};
 use pairing::stock::Stock;
 
@@ -35,7 +36,7 @@ fn write_budget(out: &mut [u8], most: usize, stock: &Stock<'_>) -> Searched
     requires room_in_bounds { room ≤ length out.old }
     ensures { BudgetWritten most (stock_of stock.now) out.old out.new result }
 {
-    let mut pairs = [NO_PAIR; CAMERAS_MOST];
+    let mut pairs = [Pair::default(); CAMERAS_MOST];
     let found = budget(most, stock, &mut pairs);
     let searches = found.ending.searches;
     let missing = missing_lanes(stock.cameras, found);
@@ -48,13 +49,11 @@ fn write_budget(out: &mut [u8], most: usize, stock: &Stock<'_>) -> Searched
 pub fn budget_by(file: &[u8], caller: u32, most: u32, out: &mut [u8]) -> Result<Searched, Refusal>
     ensures { BudgetAnswered caller most file.now out.old result out.new }
 {
-    ask(caller, out.len())?;
+    ask_call(caller, out.len())?;
     let most = most as usize;
-    if most > SEARCHES_MOST {
-        return Err(Refusal::Searches);
-    }
-    let mut fits = [NO_PAIR; FITS_MOST];
-    let mut lit = [NO_PAIR; LINES_MOST];
+    ask(most <= SEARCHES_MOST, Refusal::Searches)?;
+    let mut fits = [Pair::default(); FITS_MOST];
+    let mut lit = [Pair::default(); LINES_MOST];
     let stock = stock_in(file, &mut fits, &mut lit)?;
     Ok(write_budget(out, most, &stock))
 }

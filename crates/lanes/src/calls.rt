@@ -1,5 +1,5 @@
 // What the calls share (document 01, "Questions put to a call"; document 02, L7).
-//   ask         the questions before a file's: 17, then 1
+//   ask_call    the questions before a file's: 17, then 1
 //   graph_in    the graph that a file holds, past its questions
 //   stock_in    the stock that a file holds
 ghost use Rattle.std.specs.Prelude.{◌≤◌, length};
@@ -13,19 +13,19 @@ use files::graphs::read_graph;
 use files::stocks::read_stock;
 use formats::limits::{CALLERS, ROOM};
 use formats::refusals::Refusal;
+use frames::ask::ask;
 use pairing::stock::Stock;
 use skew::Arc;
 
-pub fn ask(caller: u32, size: usize) -> Result<(), Refusal>
+// kept: a caller is a number, as the calls take any; past question 17 it is nothing but a place in the tally, and no call asks which of the four it is
+// kept: from here on that the buffer has room is a clause of what writes and prints: a type for it would be made anew in each from the slice that is lent,
+// and what is promised is of that slice
+// kept: `as usize` of a u32, here, in budget_by and in counted, since there is no From
+pub fn ask_call(caller: u32, size: usize) -> Result<(), Refusal>
     ensures { CallAsked caller size result }
 {
-    if caller as usize >= CALLERS {
-        return Err(Refusal::Caller);
-    }
-    if size < ROOM {
-        return Err(Refusal::Room);
-    }
-    Ok(())
+    ask((caller as usize) < CALLERS, Refusal::Caller)?;
+    ask(ROOM <= size, Refusal::Room)
 }
 
 // Its arcs go to the front of the slice.

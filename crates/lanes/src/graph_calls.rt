@@ -6,14 +6,14 @@ ghost use Rattle.formats.specs.Limits.{room};
 ghost use Rattle.arcs.specs.Lent.{graph_of};
 ghost use Rattle.lanes.specs.GraphCalls.{GraphWritten, GraphAnswered};
 
-use crate::calls::{ask, graph_in};
+use crate::calls::{ask_call, graph_in};
 use crate::{Answer, Outcome};
 use arcs::graph::Graph;
 use files::answers::{put_barrier, put_path};
-use formats::limits::ARCS_MOST;
+use formats::limits::{ARCS_MOST, NODES_MOST};
 use formats::refusals::Refusal;
 use search::answer::path_or_barrier;
-use skew::NO_ARC;
+use skew::Arc;
 
 // A path, or the canonical barrier where there is none, at the front of the buffer; the tables that the search leaves its answer in are lent.
 fn write_graph(out: &mut [u8], graph: &Graph<'_>, class: &mut [u8], path: &mut [usize]) -> Answer
@@ -36,10 +36,11 @@ fn write_graph(out: &mut [u8], graph: &Graph<'_>, class: &mut [u8], path: &mut [
 pub fn answer_graph_by(file: &[u8], caller: u32, out: &mut [u8]) -> Result<Answer, Refusal>
     ensures { GraphAnswered caller file.now out.old result out.new }
 {
-    ask(caller, out.len())?;
-    let mut arcs = [NO_ARC; ARCS_MOST];
+    ask_call(caller, out.len())?;
+    let mut arcs = [Arc::default(); ARCS_MOST];
     let graph = graph_in(file, &mut arcs)?;
+    // kept: 256 and no name, as document 01's forms have it: the class table starts as [0; 256]
     let mut class = [0u8; 256];
-    let mut path = [0usize; 256];
+    let mut path = [0usize; NODES_MOST];
     Ok(write_graph(out, &graph, &mut class[..2 * graph.pairs], &mut path))
 }

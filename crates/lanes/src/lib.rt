@@ -2,6 +2,7 @@
 // stock for what a budget of searches comes to (L4), and the check.
 //   answer_graph, stock, budget           answered in a lent buffer, and counted for their caller in a lent tally
 //   check                                 a certificate judged; it lends no buffer and counts nothing
+//   tell                                  an answer counted for its caller, and told by its size
 //   graph_calls, stock_calls, budget_calls     the first three by value: what is told, and what it came to, uncounted
 //   calls                                 what the calls share: the questions before a file's, and what a file holds
 //   tallies                               the tally counted up for a caller (L7), by value and lent
@@ -19,14 +20,15 @@ ghost use Rattle.std.specs.Prelude.{◌≡◌, ◌≤◌, length};
 ghost use Rattle.formats.specs.Limits.{room, searches_most};
 ghost use Rattle.formats.specs.Refusals.{value_or};
 ghost use Rattle.lanes.specs.Entry.{no_searches, told_of, searched_of, verdict_of, GraphOwes, check_post, StockOwes, BudgetOwes};
-ghost use Rattle.lanes.specs.Tallies.{call, graph, stock, budget, tally_after};
+ghost use Rattle.lanes.specs.Tallies.{call, graph, stock, budget, tallied, tally_after};
+ghost use Rattle.lanes.specs.Calls.{told_in, outcome_in};
 
 use budget_calls::budget_by;
 use calls::graph_in;
 use formats::limits::{ARCS_MOST, CALLERS};
 use formats::refusals::Refusal;
 use graph_calls::answer_graph_by;
-use skew::NO_ARC;
+use skew::Arc;
 use stock_calls::stock_by;
 use tallies::{count, outcome_of};
 use verdicts::judge;
@@ -50,6 +52,7 @@ pub struct Tally {
 }
 
 // What a call came to: the count that it adds to.
+// kept: an enum of its own, of four outcomes, which are neither an option nor a result
 #[derive(Clone, Copy, PartialEq, Eq)]
 pub enum Outcome {
     Path,
@@ -109,7 +112,17 @@ impl From<CheckRefusal> for u8 {
     }
 }
 
+// An answer counted for its caller, and told by its size.
+fn tell(tally: &mut Tally, caller: u32, answer: Result<Answer, Refusal>) -> Result<usize, Refusal>
+    ensures told { told_of result ≡ told_in answer }
+    ensures tally { tally.new ≡ tallied tally.old caller (outcome_in answer) }
+{
+    count(tally, caller, outcome_of(answer));
+    Ok(answer?.size)
+}
+
 // A graph answered with some regular path from its source to the source's mate, or with the canonical barrier.
+// kept: file, caller and buffer one by one, as in the C interface; a struct of the three would be made by each caller for one call
 pub fn answer_graph(
     file: &[u8],
     caller: u32,
@@ -120,24 +133,20 @@ pub fn answer_graph(
     ensures tally { tally.new ≡ tally_after tally.old (call caller graph file.now (length out.old)) }
     ensures small { value_or 0 result ≤ room }
 {
-    let answer = answer_graph_by(file, caller, out);
-    count(tally, caller, outcome_of(answer));
-    Ok(answer?.size)
+    tell(tally, caller, answer_graph_by(file, caller, out))
 }
 
 // A stock answered with a plan, directly followed by its standing sheet: which largest plan is left free.
-// kept beside answer_graph, as budget: three lines that name the call and its promise, and the counting is count's
+// kept beside answer_graph, as budget: each names a call, and what is promised of it
 pub fn stock(file: &[u8], caller: u32, out: &mut [u8], tally: &mut Tally) -> Result<usize, Refusal>
     ensures stock_owes { StockOwes caller file.now out.old (told_of result) out.new }
     ensures tally { tally.new ≡ tally_after tally.old (call caller stock file.now (length out.old)) }
     ensures small { value_or 0 result ≤ room }
 {
-    let answer = stock_by(file, caller, out);
-    count(tally, caller, outcome_of(answer));
-    Ok(answer?.size)
+    tell(tally, caller, stock_by(file, caller, out))
 }
 
-// A stock answered with what at most `most` searches come to: which such pairing is left free.
+// A stock answered with what at most `most` searches come to: which such pairing is left free. It is told with its searches, so not by tell.
 pub fn budget(
     file: &[u8],
     caller: u32,
@@ -158,7 +167,7 @@ pub fn budget(
 pub fn check(graph: &[u8], cert: &[u8]) -> Result<bool, CheckRefusal>
     ensures { verdict_of result ≡ check_post graph.now cert.now }
 {
-    let mut arcs = [NO_ARC; ARCS_MOST];
+    let mut arcs = [Arc::default(); ARCS_MOST];
     let graph = graph_in(graph, &mut arcs).map_err(CheckRefusal::Graph)?;
     judge(cert, &graph).map_err(CheckRefusal::Certificate)
 }

@@ -6,9 +6,9 @@ ghost use Rattle.formats.specs.Limits.{room};
 ghost use Rattle.pairing.specs.Lent.{stock_of};
 ghost use Rattle.lanes.specs.StockCalls.{StockWritten, StockAnswered};
 
-use crate::calls::{ask, stock_in};
+use crate::calls::{ask_call, stock_in};
 use crate::{Answer, Outcome};
-use counting::NO_PAIR;
+use counting::Pair;
 use files::answers::put_plan_and_sheet;
 use formats::limits::{CAMERAS_MOST, FITS_MOST, LINES_MOST};
 use formats::refusals::Refusal;
@@ -20,7 +20,7 @@ fn write_stock(out: &mut [u8], stock: &Stock<'_>) -> Answer
     requires { room ≤ length out.old }
     ensures { StockWritten (stock_of stock.now) out.old out.new result }
 {
-    let mut pairs = [NO_PAIR; CAMERAS_MOST];
+    let mut pairs = [Pair::default(); CAMERAS_MOST];
     let mut table = [0u8; CAMERAS_MOST];
     let marks = &mut table[..stock.cameras];
     let count = plan(stock, &mut pairs, marks);
@@ -30,12 +30,13 @@ fn write_stock(out: &mut [u8], stock: &Stock<'_>) -> Answer
     }
 }
 
+// kept: what is read stands in these arrays, so they stand where it is used, here, in budget_by and in kept::bring; a struct of both is longer than these lines
 pub fn stock_by(file: &[u8], caller: u32, out: &mut [u8]) -> Result<Answer, Refusal>
     ensures { StockAnswered caller file.now out.old result out.new }
 {
-    ask(caller, out.len())?;
-    let mut fits = [NO_PAIR; FITS_MOST];
-    let mut lit = [NO_PAIR; LINES_MOST];
+    ask_call(caller, out.len())?;
+    let mut fits = [Pair::default(); FITS_MOST];
+    let mut lit = [Pair::default(); LINES_MOST];
     let stock = stock_in(file, &mut fits, &mut lit)?;
     Ok(write_stock(out, &stock))
 }

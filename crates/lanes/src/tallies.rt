@@ -40,6 +40,7 @@ pub fn counted(mut tally: Tally, caller: u32, which: Outcome) -> Tally
     ensures { result ≡ tallied tally caller which }
 {
     let at = caller as usize;
+    // kept: by an index, since nothing is known of what stands in an array after its get_mut
     if at < CALLERS {
         tally.sets[at] = add(tally.sets[at], which);
     }

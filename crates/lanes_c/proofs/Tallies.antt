@@ -1,6 +1,5 @@
 -- The sixteen counts that a call leaves.
 --   called         a call's result packed, and its outcome counted, which is the one that it comes to
---   as_answer      a budgeted call's answer as a stock's
 --   counts_stand   where each count stands
 --   counts_kept    sixteen counts and four sets are one and the same
 --   counts_follow  what a call leaves, for the next one to begin with
@@ -9,12 +8,7 @@ use mathlib.Core.List.{List, [], ◌∷◌}
 use Prim.Native.Nat.{ℕ, zero, suc}
 use native.Mathlib.Omega.{arith}
 use lib.ListN.{length}
-use Rattle.std.specs.Prelude.{Result, Ok, Err, MatchResult, IsOkAnd}
-use Rattle.formats.specs.declared.refusals.Refusal.{Refusal}
-use Rattle.lanes.specs.Entry.{searched_of}
-use Rattle.lanes.specs.Calls.{told_in, outcome_in, stock_answer, stock_answered}
-use Rattle.lanes.specs.declared.Answer.{Answer}
-use Rattle.lanes.specs.declared.Searched.{Searched}
+use Rattle.std.specs.Prelude.{Result}
 use Rattle.lanes.specs.Tallies.{tallied, outcome_of, tally_after}
 use Rattle.lanes.proofs.CallerPromises.{calls_follow, calls_leave}
 use Rattle.lanes.specs.declared.Counts.{Counts}
@@ -26,12 +20,6 @@ pub called : (all : List ℕ) (caller : ℕ) {Result : Type 0} (told : Result) {
     Called pack Owes (tallied (tally_of all) caller comes) result after left
 called all caller told o r p q =
     record { told = told; owes = o; returned = r; counted = p ∙ ap (λ (w : Outcome). all_counts (tallied (tally_of all) caller w)) q }
-
-pub as_answer : (r : Result Searched Refusal) (q : Result Answer Refusal) → MatchResult r (λ x. IsOkAnd q (λ a. a ≡ stock_answer x)) (λ e. q ≡ Err e) →
-    (told_in q ≡ (searched_of r).told) × (outcome_in q ≡ outcome_in (stock_answered r))
-as_answer (Ok x) (Ok a) h = rw h (refl, refl)
-as_answer (Ok x) (Err e) h = absurd h
-as_answer (Err e) q h = rw h (refl, refl)
 
 pub counts_stand : CountsStand
 counts_stand cs zero h = (refl, refl, refl, refl)

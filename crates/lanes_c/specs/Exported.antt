@@ -1,6 +1,7 @@
 -- What an exported call returns and leaves: document 01's results as numbers, and the tally as sixteen counts (document 02, L7).
 --   counts_at all at                                  four of them from a place on: paths, barriers, stocks, refusals
 --   tally_of all, all_counts tally                    the tally that sixteen counts are, four a caller; and the sixteen of a tally
+--   four counts                                       a caller's four in that order
 --   CountsStand                                       where each count stands: caller c's four from 4 × c on, in that order
 --   CountsKept                                        nothing is lost either way: sixteen counts are those of their tally, and four sets those of their counts;
 --                                                     sixteen zeros are the tally of zeros
@@ -31,7 +32,7 @@ counts_at cs i = record { paths = get_or cs i 0; barriers = get_or cs (i + 1) 0;
 abbrev pub tally_of : (all : List ℕ) → Tally
 tally_of cs = record { sets = counts_at cs 0 ∷ counts_at cs 4 ∷ counts_at cs 8 ∷ counts_at cs 12 ∷ [] }
 
-abbrev four : Counts → List ℕ
+abbrev pub four : Counts → List ℕ
 four k = k.paths ∷ k.barriers ∷ k.stocks ∷ k.refusals ∷ []
 
 abbrev pub all_counts : Tally → List ℕ

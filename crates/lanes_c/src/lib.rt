@@ -2,23 +2,23 @@
 //   lanes_graph, lanes_stock, lanes_budget, lanes_check  the calls
 //   lanes_power_on, lanes_bring, lanes_keep, lanes_come_back, lanes_forget     those of kept pairings (document 02, L8), over a lent state
 //   counts_at, tally_of                                  four of the sixteen counts as a caller's, and all as a tally
-//   put_tally                                            a tally as sixteen counts
+//   count_at, put_tally                                  one of the sixteen by its place, and all of a tally
 //   number_of                                            the number of a refusal, 0 where there is none
 //   pack                                                 a call's result as one number
 //   told                                                 the same of an answer, which is counted for its caller
 #![tactic(auto)]
 
-ghost use Rattle.std.specs.Prelude.{◌≡◌, ◌≤◌, ◌<◌, length, replicate};
+ghost use Rattle.std.specs.Prelude.{◌≡◌, ◌≤◌, ◌<◌, ◌/◌, ◌%◌, length, get_or, replicate};
 ghost use Rattle.formats.specs.Limits.{room};
 ghost use Rattle.formats.specs.Refusals.{refusal_in, value_or};
 ghost use Rattle.lanes.specs.Entry.{told_of, GraphOwes, StockOwes, BudgetOwes, check_post};
 ghost use Rattle.lanes.specs.Calls.{no_answer, told_in, outcome_in};
-ghost use Rattle.lanes.specs.Tallies.{call, graph, stock, budget, tallied, tally_after};
+ghost use Rattle.lanes.specs.Tallies.{counts_of, call, graph, stock, budget, tallied, tally_after};
 ghost use Rattle.kept.specs.State.{bring, keep_as, come_back, forget};
 ghost use Rattle.kept.specs.Block as kept;
 ghost use Rattle.kept.specs.Block.{block_size, text_of, Owes};
 ghost use Rattle.files.specs.Answers.{over};
-ghost use Rattle.lanes_c.specs.Exported.{counts_at, tally_of, all_counts, packed, packed_searched, said, Called};
+ghost use Rattle.lanes_c.specs.Exported.{counts_at, tally_of, four, all_counts, packed, packed_searched, said, Called};
 
 use formats::refusals::Refusal;
 use kept::{STATE, bring, come_back, forget, keep, power_on};
@@ -29,6 +29,7 @@ use lanes::tallies::{counted, outcome_of};
 use lanes::{Answer, Counts, Tally, check};
 use std::array;
 
+// kept: four places by their numbers; by as_chunks they need a law over chunks, which did not close
 fn counts_at(all: &[u32; 16], at: usize) -> Counts
     requires { at ≤ 12 }
     ensures { result ≡ counts_at all.now at }
@@ -49,29 +50,23 @@ fn tally_of(all: &[u32; 16]) -> Tally
     }
 }
 
-// kept: sixteen counts written out; by chunks of four it is a loop with an invariant, and no plainer
+fn count_at(tally: &Tally, at: usize) -> u32
+    requires { at < 16 }
+    ensures { result ≡ get_or (four (counts_of tally.now (at / 4))) (at % 4) 0 }
+{
+    let counts = tally.sets[at / 4];
+    [
+        counts.paths,
+        counts.barriers,
+        counts.stocks,
+        counts.refusals,
+    ][at % 4]
+}
+
 fn put_tally(all: &mut [u32; 16], tally: Tally)
     ensures { all.new ≡ all_counts tally }
 {
-    let [foreman, grader, service, stores] = tally.sets;
-    *all = [
-        foreman.paths,
-        foreman.barriers,
-        foreman.stocks,
-        foreman.refusals,
-        grader.paths,
-        grader.barriers,
-        grader.stocks,
-        grader.refusals,
-        service.paths,
-        service.barriers,
-        service.stocks,
-        service.refusals,
-        stores.paths,
-        stores.barriers,
-        stores.stocks,
-        stores.refusals,
-    ];
+    *all = array::from_fn(|at| count_at(&tally, at));
 }
 
 // kept: 0 for no refusal, as the C interface has it
@@ -84,6 +79,7 @@ fn number_of<T: Copy>(answer: Result<T, Refusal>) -> u8
     }
 }
 
+// kept: `as u64` of a usize, here and in lanes_budget, since there is no From
 fn pack(answer: Result<usize, Refusal>) -> u64
     requires { value_or 0 answer ≤ room }
     ensures value { result ≡ packed (told_of answer) }

@@ -1,6 +1,5 @@
 -- From what a call owes to what is printed.
 --   text_prints, line_prints                   a text at the front of a buffer; a line written there
---   told_mapped                                a call's answer by its size alone tells the same
 --   refusal_shows                              a refusal, as it is printed: its line
 --   shown                                      it is a right answer, or the line of the refusal
 --   graph_prints, stock_prints, budget_prints      the same of each call, where there is room
@@ -12,22 +11,26 @@ use native.Mathlib.Omega.{arith}
 use borrow.Author.Tests.{le-leb, eqb-true, eqb-false, ne_eqb}
 use lib.Dec.{eqb}
 use lib.ListN.{length, drop, length-append}
-use Rattle.std.proofs.Common.{Result, Ok, Err, MatchResult, IsOkAnd}
+use Rattle.std.proofs.Common.{Err}
 use Rattle.formats.specs.Limits.{room}
-use Rattle.formats.specs.Refusals.{refusal_number, refusal_in, value_or}
+use Rattle.formats.specs.Refusals.{refusal_number}
 use Rattle.formats.specs.declared.refusals.Refusal.{Refusal}
 use Rattle.io.proofs.Counting.{prefix_len_of_le}
 use Rattle.counting.proofs.Booleans.{true_false}
 use Rattle.skew.specs.Graph.{has_path, is_wanted, canonical}
 use Rattle.frames.specs.Frames.{or_else}
-use Rattle.frames.specs.Writes.{Written}
-use Rattle.frames.proofs.Writes.{written_over, frame4_length}
+use Rattle.std.specs.Borrow.{MutBor}
+use Rattle.counting.specs.SliceVecs.{Begun, Extended}
+use Rattle.counting.specs.declared.slice_vec.SliceVec.{SliceVec}
+use Rattle.frames.proofs.Writes.{frame4_length}
 use Rattle.files.specs.GraphFile.{graph_in, graph_fault}
 use Rattle.files.specs.StockFile.{stock_in, stock_fault, plan_and_sheet}
 use Rattle.files.specs.CertificateFile.{path_text, barrier_text}
 use Rattle.files.specs.Answers.{over}
+use Rattle.files.proofs.AnswerLines.{first_written}
 use Rattle.frames.proofs.Questions.{refusal_some}
-use Rattle.lanes.specs.Entry.{told_of, Told, SearchedTold, refusal_line, told, answer_fault, stock_call_fault, Answers, GraphOwes, StockOwes, most_fault, budget_fault, budget_text_of, BudgetOwes}
+use Rattle.lanes.specs.Entry.{Told, SearchedTold, refusal_line, told, answer_fault, stock_call_fault, Answers, GraphOwes, StockOwes, most_fault, budget_fault, budget_text_of, BudgetOwes}
+use Rattle.lanes.specs.Calls.{told_in}
 use Rattle.lanes_print.specs.Printed.{RefusedOr, GraphAnswer, GraphText, StockAnswer, StockText, BudgetAnswer, BudgetText, Shows, PrintsOne, Prints}
 
 -- A TEXT AT THE FRONT
@@ -36,18 +39,12 @@ text_prints {text} {before} {after} {size} e s =
     let l : length after ≡ length text + length (drop (length text) before) = rw e (length-append text (drop (length text) before)) in
     record { written = record { bytes = e; told = s }; counted = prefix_len_of_le size after (omega arith) }
 
-pub line_prints : {before text after : List ℕ} {size next : ℕ} → Written before 0 size text after next → size ≤ length before → PrintsOne text before after next
-line_prints w h = let o = written_over w h in text_prints o.0 o.1
+pub line_prints : {out : MutBor (List ℕ)} {v w : SliceVec ℕ} {text after : List ℕ} → Begun out v → Extended v text w →
+    (out.ghost_name ≡ w.slice.ghost_name → after ≡ w.slice.now) → PrintsOne text out.now after w.len
+line_prints b x same = let p = first_written b x same in text_prints p.bytes p.told
 
 -- A CALL'S ANSWER, or the line of its refusal
--- a result mapped to its size tells the same
-pub told_mapped : {A : Type 0} (size : A → ℕ) (none : A) → size none ≡ 0 → (r : Result A Refusal) (m : Result ℕ Refusal) →
-    MatchResult r (λ x. IsOkAnd m (λ k. k ≡ size x)) (λ e. m ≡ Err e) → told_of m ≡ record { number = refusal_in r; size = size (value_or none r) }
-told_mapped size none z (Ok x) (Ok k) h = ap (λ (n : ℕ). told 0 n) h
-told_mapped size none z (Ok x) (Err e) h = absurd h
-told_mapped size none z (Err e) m h = rw (h, z)
-
-pub refusal_shows : (e : Refusal) {o w : List ℕ} {s : ℕ} → PrintsOne (refusal_line (refusal_number e)) o w s → Shows (told_of (Err e)) o w s
+pub refusal_shows : (e : Refusal) {o w : List ℕ} {s : ℕ} → PrintsOne (refusal_line (refusal_number e)) o w s → Shows (told_in (Err e)) o w s
 refusal_shows e p =
     let z = ne_eqb (refusal_number e) 0 (refusal_some e) in
     record { bytes = rw z p.written.bytes; told = rw z (p.written.told ∙ frame4_length 126 (refusal_number e)) }

@@ -2,11 +2,11 @@
 --   is_decimal byte             a decimal digit
 --   decimal_from value digits   the number that digits say behind a value
 --   too_many                    one more than question 15 allows
+--   with_digit value digit      a number with one digit more, cut off at too_many
 --   said_from value text        the number said behind a value: no more than too_many, and that where a byte is no digit
 --   most_said text              the number said; too_many where nothing is
 --   KnownArguments              0, 64, 007, 65, 320; an empty text, a sign and a blank
---   Reading text value i        i digits are read and say the value; with those left they say the whole
-use Rattle.std.specs.Prelude.{◌≡◌, Bool, ◌&&◌, List, [], ◌∷◌, ℕ, suc, ◌+◌, ◌-◌, ◌*◌, min, ◌≤◌, leb, eqb, length, drop}
+use Rattle.std.specs.Prelude.{◌≡◌, Bool, ◌&&◌, List, [], ◌∷◌, ℕ, suc, ◌+◌, ◌-◌, ◌*◌, min, leb, eqb, length}
 use Rattle.formats.specs.Limits.{searches_most}
 use Rattle.counting.specs.Tests.{pick, all}
 
@@ -20,16 +20,14 @@ decimal_from v (d ∷ ds) = decimal_from (10 * v + (d - 48)) ds
 abbrev pub too_many : ℕ
 too_many = suc searches_most
 
+abbrev pub with_digit : (value digit : ℕ) → ℕ
+with_digit v d = min (10 * v + (d - 48)) too_many
+
 abbrev pub said_from : (value : ℕ) → (text : List ℕ) → ℕ
 said_from v ds = pick (all is_decimal ds) (min (decimal_from v ds) too_many) too_many
 
 abbrev pub most_said : (text : List ℕ) → ℕ
 most_said ds = pick (eqb (length ds) 0) too_many (said_from 0 ds)
-
-pub record Reading (text : List ℕ) (value i : ℕ) : Type 0 where
-  pub within : i ≤ length text
-  pub low : value ≤ too_many
-  pub rest : most_said text ≡ said_from value (drop i text)
 
 abbrev pub KnownArguments : Type 0
 KnownArguments =

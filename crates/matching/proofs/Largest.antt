@@ -3,15 +3,15 @@
 --   no_path_largest, no_path_greatest, no_path_pairs     it leaves over no more than any other; it has the greatest number of pairs
 --   outer_left, left_outer                               outer cameras are those that some largest pairing leaves over
 --   no_path_mark, no_path_marks                          a camera's mark by pairings alone; all marks
---   marks_at, marks_length                               marks read off any table of nodes, one for each camera
+--   marks_length                                         marks read off any table of nodes, one for each camera
 use mathlib.Core.Path.{◌≡◌, refl, ap, ◌∙◌}
 use mathlib.Core.Logic.{inl, inr, ⊎_elim}
 use mathlib.Core.Bool.{Bool, true, false}
 use mathlib.Core.List.{List, [], ◌∷◌}
-use Prim.Native.Nat.{ℕ, zero, suc, ◌+◌, ◌*◌, ◌≤◌, ◌<◌}
+use Prim.Native.Nat.{ℕ, suc, ◌+◌, ◌*◌, ◌≤◌, ◌<◌}
 use native.Mathlib.Omega.{arith}
-use lib.ListN.{length, get_or}
-use Rattle.counting.specs.Tests.{pick, up_from, below}
+use lib.ListN.{length}
+use Rattle.counting.specs.Tests.{pick, below}
 use Rattle.counting.specs.Lists.{In}
 use Rattle.counting.specs.declared.Pair.{Pair}
 use Rattle.counting.proofs.Booleans.{by_test, true_false}
@@ -33,12 +33,6 @@ pub marks_length : (h f : ℕ → Bool) (ks : List ℕ) → length (marks_by h f
 unfolding marks_by
 marks_length h f [] = refl
 marks_length h f (k ∷ ks) = ap suc (marks_length h f ks)
-
-pub marks_at : (h f : ℕ → Bool) (a n i : ℕ) → i < n → get_or (marks_by h f (up_from a n)) i 0 ≡ mark_by h f (a + i)
-unfolding marks_by up_from
-marks_at h f a zero i l = absurd (omega arith)
-marks_at h f a (suc n) zero l = ap (mark_by h f) (omega arith)
-marks_at h f a (suc n) (suc i) l = marks_at h f (suc a) n i (omega arith) ∙ ap (mark_by h f) (omega arith)
 
 module _ (n : ℕ) (fs : List Pair) (F : FitsBelow n fs) where
   module _ (p : ℕ → ℕ) (M : Matching fs p) (no_path : has_path (doubled_table n fs p) ≡ false) where

@@ -1,76 +1,77 @@
 -- The doubled table, written arc by arc: what is written and what is left are the whole.
---   cameras_next, cameras_end     one camera's arcs more are written; those of all are
---   fits_next, fits_end           one fit's arcs more are written; those of all are
---   fit_first, fit_second         a fit's cameras
---   paired_fits, row_low          the fits are of the row's cameras; partners are cameras
 --   cameras_size                  how many arcs the cameras have
---   doubled, doubled_graph        cameras and then fits are the doubled table; the graph of it
-use Rattle.std.proofs.Common.{◌≡◌, refl, sym, ap, List, [], ℕ, suc, ◌+◌, ◌*◌, ◌≤◌, ◌<◌, length, get_or, take, arith}
+--   fit_named                     a fit's cameras, the smaller first
+--   fit_in_row, fit_room          the next fit's first camera is one of the row; its arcs fit
+--   fit_next, fits_end            they are written; those of all are
+--   paired_fits, row_low          the fits are of the row's cameras; partners are cameras
+--   doubled, doubled_read         cameras and then fits are the doubled table; its arcs, read back
+use Rattle.std.proofs.Common.{◌≡◌, ap, ◌∙◌, List, [], ◌++◌, ℕ, ◌+◌, ◌*◌, ◌≤◌, ◌<◌, length, get_or, take, drop, arith, length-append}
+use Rattle.std.proofs.Math.ListN.{drop_of_length-le}
+use Rattle.std.specs.Borrow.{MutBor}
 use Rattle.formats.specs.Limits.{arcs_most}
-use Rattle.counting.specs.Tests.{below}
-use Rattle.counting.specs.Lists.{In}
+use Rattle.counting.specs.Tests.{up_from, below}
 use Rattle.counting.specs.Pairs.{no_pair}
+use Rattle.counting.specs.SliceVecs.{Begun, Extended, Extending}
 use Rattle.counting.specs.declared.Pair.{Pair}
+use Rattle.counting.specs.declared.slice_vec.SliceVec.{SliceVec}
 use Rattle.counting.proofs.Membership.{get_d_in}
 use Rattle.counting.proofs.Range.{length_up}
-use Rattle.counting.proofs.Loops.{next_in, next_below}
+use Rattle.counting.proofs.Loops.{next_in}
+use Rattle.counting.proofs.SliceVecs.{extended_then, extended_taken, extending_next, extending_end, extending_room}
 use Rattle.skew.specs.declared.Arc.{Arc}
-use Rattle.arcs.specs.Table.{graph}
 use Rattle.matching.specs.Stock.{Stock}
 use Rattle.matching.specs.Matching.{FitsBelow}
 use Rattle.matching.specs.Row.{partner_in}
-use Rattle.matching.specs.DoubledTable.{arcs_of_camera, camera_arcs, arcs_of_fit, fit_arcs, doubled_table}
+use Rattle.matching.specs.DoubledTable.{camera_arcs, arcs_of_fit, fit_arcs, doubled_table}
 use Rattle.matching.proofs.Rising.{rising_ordered}
 use Rattle.matching.proofs.Matchings.{matching_low}
 use Rattle.matching.proofs.Rows.{row_partner}
-use Rattle.matching.proofs.DoubledTable.{camera_arcs_few, camera_arcs_rest, camera_size, fit_arcs_few, table_size}
+use Rattle.matching.proofs.DoubledTable.{camera_arcs_rest, camera_size, table_size}
 use Rattle.matching.proofs.Promises.{well_formed_fits}
-use Rattle.pairing.specs.Table.{StockTable, PairedFits, Put, Putting, arcs_of_cameras, arcs_of_fits, Doubled}
-use Rattle.pairing.specs.Row.{row_graph}
-use Rattle.pairing.proofs.PutRuns.{put_as, put_long, put_more, put_read, putting_next, putting_end}
+use Rattle.pairing.specs.Table.{StockTable, PairedFits, arcs_of_cameras, arcs_of_fits, Doubled}
 
 -- CAMERAS
-module _ (row : List ℕ) {before after : List Arc} {at k : ℕ} (W : Putting (arcs_of_cameras row) 2 (below (length row)) before 0 after at k) where
-  pub cameras_next : {after' : List Arc} {at' : ℕ} → k < length row → Put after at after' at' (arcs_of_camera (length row) k (get_or row k 0)) →
-      Putting (arcs_of_cameras row) 2 (below (length row)) before 0 after' at' (k + 1)
-  unfolding camera_arcs
-  cameras_next h P =
-      putting_next W (next_below (length row) k h) refl (camera_arcs_few (length row) k (partner_in row k)) (put_as P (ap (arcs_of_camera (length row) k) (row_partner row k h)))
-
-  pub cameras_end : length row ≤ k → Put before 0 after at (arcs_of_cameras row (below (length row)))
-  unfolding camera_arcs
-  cameras_end h = putting_end W (omega (arith, length_up 0 (length row))) refl
-
-pub cameras_size : (row : List ℕ) {before after : List Arc} {at : ℕ} → Put before 0 after at (arcs_of_cameras row (below (length row))) → at ≤ 2 * length row
-cameras_size row P =
-    omega (arith, P.count, camera_size (length row) (partner_in row) (below (length row)) [], length_up 0 (length row))
+pub cameras_size : (row : List ℕ) → length (arcs_of_cameras row (below (length row))) ≤ 2 * length row
+cameras_size row = omega (arith, camera_size (length row) (partner_in row) (below (length row)) [], length_up 0 (length row))
 
 -- FITS
-module _ {s : Stock} (T : StockTable s) (i : ℕ) (h : i < length s.fits) where
-  fit_in : In (get_or s.fits i no_pair) s.fits
-  fit_in = get_d_in s.fits no_pair i h
+pub fit_named : {s : Stock} (T : StockTable s) (i : ℕ) → i < length s.fits → let x = get_or s.fits i no_pair in (x.first < x.second) × (x.second < s.cameras)
+fit_named {s} T i h =
+    let W = well_formed_fits s T.well_formed in
+    let x = get_or s.fits i no_pair in
+    let m = get_d_in s.fits no_pair i h in
+    (rising_ordered s.fits W.rising x m, W.named x m)
 
-  pub fit_second : (get_or s.fits i no_pair).second < s.cameras
-  fit_second = (well_formed_fits s T.well_formed).named (get_or s.fits i no_pair) fit_in
+fits_size : (row : List ℕ) (fs : List Pair) → length (arcs_of_fits row fs) ≤ 2 * length fs
+unfolding camera_arcs up_from
+fits_size row fs = let h : length (arcs_of_fits row fs) ≤ 2 * 0 + 2 * length fs = table_size 0 fs (partner_in row) in omega arith
 
-  pub fit_first : (get_or s.fits i no_pair).first < (get_or s.fits i no_pair).second
-  fit_first = rising_ordered s.fits (well_formed_fits s T.well_formed).rising (get_or s.fits i no_pair) fit_in
-
-module _ (row : List ℕ) {s : Stock} {before after : List Arc} {start at i : ℕ} (T : StockTable s) (W : Putting (arcs_of_fits row) 2 s.fits before start after at i) where
-  pub fits_next : {after' : List Arc} {at' : ℕ} → length row ≡ s.cameras → i < length s.fits →
-      Put after at after' at' (arcs_of_fit (get_or s.fits i no_pair).first (get_or s.fits i no_pair).second (get_or row (get_or s.fits i no_pair).first 0)) →
-      Putting (arcs_of_fits row) 2 s.fits before start after' at' (i + 1)
+-- the arcs of the fits written, with those of the fits from i on left
+module _ {row : List ℕ} {s : Stock} (T : StockTable s) (P : PairedFits row s) {v w : SliceVec Arc} {i : ℕ} (W : Extending v (arcs_of_fits row s.fits) w (arcs_of_fits row (drop i s.fits))) where
+  pub fits_end : length s.fits ≤ i → Extended v (arcs_of_fits row s.fits) w
   unfolding fit_arcs
-  fits_next long h P =
-      let x = get_or s.fits i no_pair in
-      let l : x.first < length row = omega (arith, fit_first T i h, fit_second T i h) in
-      putting_next W (next_in s.fits no_pair i h) refl (fit_arcs_few x.first x.second (partner_in row x.first))
-      (put_as P (ap (arcs_of_fit x.first x.second) (row_partner row x.first l)))
+  fits_end h = extending_end W (ap (arcs_of_fits row) (drop_of_length-le s.fits {i = i} h))
 
-pub fits_end : (row : List ℕ) {fs : List Pair} {before after : List Arc} {start at i : ℕ} → Putting (arcs_of_fits row) 2 fs before start after at i → length fs ≤ i →
-    Put before start after at (arcs_of_fits row fs)
-unfolding fit_arcs
-fits_end row W h = putting_end W h refl
+  module _ (h : i < length s.fits) where
+    abbrev x : Pair
+    x = get_or s.fits i no_pair
+
+    pub fit_in_row : x.first < length row
+    fit_in_row = omega (arith, fit_named T i h, P.long)
+
+    abbrev part : List Arc
+    part = arcs_of_fit x.first x.second (get_or row x.first 0)
+
+    split : arcs_of_fits row (drop i s.fits) ≡ part ++ arcs_of_fits row (drop (i + 1) s.fits)
+    unfolding fit_arcs
+    split = ap (arcs_of_fits row) (next_in s.fits no_pair i h).is ∙ rw (row_partner row x.first fit_in_row)
+
+    pub fit_room : v.len + 2 * length s.fits ≤ length v.slice.now → w.len + length part ≤ length w.slice.now
+    fit_room room =
+        omega (arith, extending_room W (omega (arith, fits_size row s.fits)), ap length split, length-append part (arcs_of_fits row (drop (i + 1) s.fits)))
+
+    pub fit_next : {w' : SliceVec Arc} → Extended w part w' → Extending v (arcs_of_fits row s.fits) w' (arcs_of_fits row (drop (i + 1) s.fits))
+    fit_next e = extending_next W part split e
 
 -- BOTH
 module _ {row : List ℕ} {s : Stock} (T : StockTable s) (P : PairedFits row s) where
@@ -83,17 +84,11 @@ module _ {row : List ℕ} {s : Stock} (T : StockTable s) (P : PairedFits row s) 
   pub row_low : (k : ℕ) → k < n → get_or row k 0 < n
   row_low k h = rw (← row_partner row k h) (matching_low n s.fits paired_fits (partner_in row) P.matching k h)
 
-  pub doubled : {before middle after : List Arc} {at next : ℕ} → arcs_most ≤ length before → Put before 0 middle at (arcs_of_cameras row (below n)) →
-      Put middle at after next (arcs_of_fits row s.fits) → Doubled row s.fits before after next
-  doubled {before} {after = after} {next = next} room A B =
-      let p = partner_in row in
-      let W : Put before 0 after next (doubled_table n s.fits p).arcs = put_as (put_more A B) (sym (camera_arcs_rest n p (below n) (fit_arcs p s.fits))) in
-      let few : next ≤ arcs_most = omega (arith, W.count, table_size n s.fits p, P.long, T.cameras_few, T.fits_few) in
-      let l = put_long W in
-      record { written = W; room = omega arith; few = few }
+  pub doubled : {v u w : SliceVec Arc} → Extended v (arcs_of_cameras row (below n)) u → Extended u (arcs_of_fits row s.fits) w → Doubled row s.fits v w
+  doubled A B = rw (← camera_arcs_rest n (partner_in row) (below n) (fit_arcs (partner_in row) s.fits)) (extended_then A B)
 
-pub doubled_graph : {row : List ℕ} {fs : List Pair} {before after : List Arc} {next : ℕ} → Doubled row fs before after next →
-    row_graph row (take next after) ≡ doubled_table (length row) fs (partner_in row)
-doubled_graph {row} {before = before} D =
-    let W = D.written in
-    ap (λ (l : List Arc). graph (suc (length row)) (2 * length row) l) (put_read W (omega (arith, W.count, D.room, put_long W)))
+  -- its arcs, as a caller reads them who lent a place for each
+  pub doubled_read : {slice : MutBor (List Arc)} {v w : SliceVec Arc} {arcs : List Arc} → Begun slice v → arcs_most ≤ length slice.now → Doubled row s.fits v w →
+      arcs ≡ take w.len w.slice.now → arcs ≡ (doubled_table n s.fits (partner_in row)).arcs
+  doubled_read B room D e =
+      e ∙ extended_taken B.empty (omega (arith, table_size n s.fits (partner_in row), P.long, T.cameras_few, T.fits_few, ap length B.slice_is)) D

@@ -12,12 +12,12 @@ use lib.ListN.{length, take}
 use borrow.Author.Tests.{eqb-true}
 use Rattle.counting.specs.declared.Pair.{Pair}
 use Rattle.counting.proofs.Booleans.{and_five}
+use Rattle.counting.proofs.Stores.{take_sets}
 use Rattle.matching.specs.Stock.{Stock, is_pairing, greatest, pairs_rise, keeps_lit, is_plan}
 use Rattle.matching.specs.Promise.{WellFormedStock}
 use Rattle.matching.proofs.Matchings.{list_count}
 use Rattle.matching.proofs.Promises.{well_formed_fits}
 use Rattle.pairing.specs.Table.{Put}
-use Rattle.pairing.proofs.PutRuns.{put_read}
 
 pub plan_pairing : (s : Stock) (ps : List Pair) → is_plan s ps ≡ true → is_pairing s.fits ps ≡ true
 plan_pairing s ps h = (and_five _ _ _ _ _ h).0
@@ -32,4 +32,7 @@ module _ {s : Stock} (W : WellFormedStock s) {ps : List Pair} (P : is_pairing s.
   listed_few = omega (arith, w.count, list_count s.cameras s.fits (well_formed_fits s W) ps P)
 
   pub listed_read : s.cameras ≤ length before → take r after ≡ ps
-  listed_read h = let few = listed_few in put_read w (omega (arith, w.count))
+  listed_read h =
+      let few = listed_few in
+      let c : r ≡ length ps = omega (arith, w.count) in
+      rw (w.entries, c) (take_sets before ps (omega arith))

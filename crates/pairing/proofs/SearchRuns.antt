@@ -23,9 +23,8 @@ use Rattle.matching.proofs.Greatest.{greatest_bound}
 use Rattle.matching.proofs.Largest.{no_path_marks, no_path_pairs}
 use Rattle.matching.proofs.Plans.{augmented_budgeted}
 use Rattle.matching.proofs.Promises.{well_formed_fits, well_formed_lit, gain_few, budget_plans}
-use Rattle.pairing.specs.Table.{StockTable, Put}
-use Rattle.pairing.specs.Plan.{NoPathLeft, Improving, Ran, BudgetListed, PlanMarked}
-use Rattle.pairing.specs.declared.plan.Ending.{Ending}
+use Rattle.pairing.specs.Table.{StockTable}
+use Rattle.pairing.specs.Plan.{NoPathLeft, Improving, Ran, Found, BudgetListed, PlanMarked}
 use Rattle.pairing.specs.declared.plan.PairsFound.{PairsFound}
 
 -- ENOUGH SEARCHES: 127 cameras have at most 63 pairs, and one more search tells that there is no other
@@ -52,7 +51,13 @@ module _ {s : Stock} (T : StockTable s) where
       record { long = refl; matching = rw q (list_matching n fs F s.lit lit); keeps = λ c ne. ne; count = omega arith; same = λ _. refl }
 
   -- WHAT A RUN COMES TO
-  module _ {most : ℕ} {row : List ℕ} {reached : List Bool} {r : Ending} (R : Ran most s row reached r) where
+  module _ {most : ℕ} {before after : List Pair} {reached : List Bool} {r : PairsFound} (N : Found most s before after reached r) where
+    abbrev row : List ℕ
+    row = N.row
+
+    abbrev R : Ran most s row reached r.ending
+    R = N.ran
+
     abbrev p : ℕ → ℕ
     p = partner_in row
 
@@ -77,11 +82,11 @@ module _ {s : Stock} (T : StockTable s) where
     no_path E = subst (λ (m : ℕ). has_path (doubled_table m fs p) ≡ false) same E.no_path
 
     -- a search that found none tells that the pairs are largest
-    counts : (R.found ≡ gained s most) × (r.searches ≡ searches_run s most) × (r.none ≡ found_none s most)
+    counts : (R.found ≡ gained s most) × (r.ending.searches ≡ searches_run s most) × (r.ending.none ≡ found_none s most)
     counts =
         let few = greatest_bound n fs F (lit_fits p fs) (lit_pairing n fs F p M) in
         let g = grown in
-        by_test r.none
+        by_test r.ending.none
         (λ t.
         let e = R.none t in
         let h = e.0 in
@@ -94,9 +99,8 @@ module _ {s : Stock} (T : StockTable s) where
         let whole = e.1 in
         (omega arith, omega arith, t ∙ sym (le-ltb (gain s) most (omega arith))))
 
-    pub budget_listed : {before after : List Pair} {k : PairsFound} → Put before 0 after k.pairs (pairs_in_order p (below (length row))) → k.ending ≡ r →
-        BudgetListed most s before after k
-    budget_listed W is =
+    pub budget_listed : BudgetListed most s before after r
+    budget_listed =
         let found = counts.0 in
         let listed = ap (λ (l : List Pair). length l) (pairs_lit n fs F p M) in
         record {
@@ -104,18 +108,17 @@ module _ {s : Stock} (T : StockTable s) where
           budgeted =
               rw same (augmented_budgeted s F lit T.well_formed.lit_rising most p M (λ c ne. I.keeps c (λ z. ne (sym (ap (λ (f : ℕ → ℕ). f c) R.start_lit) ∙ z))) (omega (arith, grown))
               (λ z. ap (λ (l : List ℕ). partner_in l) (I.same (omega arith)) ∙ R.start_lit));
-          searches = rw is counts.1;
-          none = rw is counts.2;
-          written = W;
+          searches = counts.1;
+          none = counts.2;
+          written = N.written;
         }
 
     -- with more searches than there is gain the last one found none, and the pairs are a plan
-    pub plan_marked : gain s < most → {before after : List Pair} {k : ℕ} (marks₀ : List ℕ) {marks : List ℕ} →
-        Put before 0 after k (pairs_in_order p (below (length row))) → length marks₀ ≡ n →
-        marks ≡ marks_by (is_included fs) (is_flagged reached) (below (length marks₀)) → PlanMarked s before after marks k
-    plan_marked enough {k = k} marks₀ W l m =
+    pub plan_marked : gain s < most → (marks₀ : List ℕ) {marks : List ℕ} → length marks₀ ≡ n →
+        marks ≡ marks_by (is_included fs) (is_flagged reached) (below (length marks₀)) → PlanMarked s before after marks r.pairs
+    plan_marked enough marks₀ l m =
         let E = (R.none (counts.2 ∙ lt-ltb (gain s) most enough)).2 in
-        let B = budget_listed {k = record { pairs = k; ending = r }} W refl in
+        let B = budget_listed in
         record {
           pairs = B.pairs;
           plan = sym (budget_plans s most B.pairs T.well_formed enough).0 ∙ B.budgeted;

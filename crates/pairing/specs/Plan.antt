@@ -3,14 +3,16 @@
 --   Stepped fits row row' reached r         one search: r, and one pair more; or none, and the table of nodes
 --   Improving fits row₀ row k               k searches that gave a pair each: every lit camera is lit, and nothing has changed where k is 0
 --   Ran most s row reached r                from the row of the lit pairs so many searches, and one more that found none; or as many as may be run
+--   Found most s before after reached r     the pairs of a row that so many searches come to stand at the front of a table, and the last has told the nodes
 --   BudgetListed most s before after r      the pairs that so many searches come to stand at the front of a table, with the numbers defined
 --   PlanMarked s before after marks r       r pairs of a plan stand there, and the marks are those of the cameras, by cameras and fits alone
 use Rattle.std.specs.Prelude.{◌≡◌, ◌≢◌, Bool, true, false, List, ℕ, suc, ◌+◌, ◌*◌, ◌<◌, length}
+use Rattle.counting.specs.Tests.{below}
 use Rattle.counting.specs.declared.Pair.{Pair}
 use Rattle.skew.specs.Graph.{is_reachable, has_path}
 use Rattle.matching.specs.Stock.{Stock, marks_of, is_plan}
 use Rattle.matching.specs.Budget.{searches_run, found_none, is_budgeted}
-use Rattle.matching.specs.Matching.{Matching, unlit, partner}
+use Rattle.matching.specs.Matching.{Matching, unlit, partner, pairs_in_order}
 use Rattle.matching.specs.Rotation.{Augments}
 use Rattle.matching.specs.Row.{partner_in}
 use Rattle.matching.specs.Flags.{is_flagged}
@@ -42,6 +44,11 @@ pub record Ran (most : ℕ) (s : Stock) (row : List ℕ) (reached : List Bool) (
   pub improving : Improving s.fits start row found
   pub none : r.none ≡ true → (r.searches ≡ found + 1) × (found < most) × NoPathLeft s.fits row reached
   pub all : r.none ≡ false → (r.searches ≡ found) × (found ≡ most)
+
+pub record Found (most : ℕ) (s : Stock) (before after : List Pair) (reached : List Bool) (r : PairsFound) : Type 0 where
+  pub row : List ℕ
+  pub ran : Ran most s row reached r.ending
+  pub written : Put before 0 after r.pairs (pairs_in_order (partner_in row) (below (length row)))
 
 pub record BudgetListed (most : ℕ) (s : Stock) (before after : List Pair) (r : PairsFound) : Type 0 where
   pub pairs : List Pair

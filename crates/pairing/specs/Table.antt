@@ -3,14 +3,17 @@
 --   StockTable s                       what the questions put to a stock settle
 --   PairedFits row s                   the row pairs the stock's cameras by its fits
 --   Put before at after next xs        the elements stand in the table from `at` on, `next` is the place behind them, all else is as before
---   Putting xs_for each items before at after next i     those for the items before place i are written, at most so many each
 --   arcs_of_cameras row cameras, arcs_of_fits row fits    the arcs that the row gives these cameras, and these fits
---   FlagsSet fits flags₀ flags i       the flags of the fits before place i are set: with those of the others, all are
---   Doubled row fits before after next     the doubled table of the row stands in front, all else is as before
-use Rattle.std.specs.Prelude.{◌≡◌, ◌||◌, Bool, List, [], ℕ, ◌+◌, ◌*◌, ◌≤◌, length, drop}
+--   FlagsSet s flags i                 the flags of the fits before place i are set: with those of the others, all are
+--   marks_read flags nodes             the marks read off the cameras' flags and those of their nodes, two for each
+--   Doubled row fits before after      the arcs of the row's doubled table are written behind a list, all else is as before
+use Rattle.std.specs.Prelude.{◌≡◌, ◌||◌, Bool, List, [], ◌∷◌, ℕ, ◌+◌, ◌≤◌, length, drop}
 use Rattle.std.proofs.lemmas.List.Edits.{sets}
-use Rattle.formats.specs.Limits.{arcs_most, cameras_most, fits_most}
+use Rattle.formats.specs.Limits.{cameras_most, fits_most}
+use Rattle.counting.specs.Tests.{pick}
+use Rattle.counting.specs.SliceVecs.{Extended}
 use Rattle.counting.specs.declared.Pair.{Pair}
+use Rattle.counting.specs.declared.slice_vec.SliceVec.{SliceVec}
 use Rattle.skew.specs.declared.Arc.{Arc}
 use Rattle.matching.specs.Stock.{Stock, is_included}
 use Rattle.matching.specs.Promise.{WellFormedStock}
@@ -35,23 +38,21 @@ pub record Put {A : Type 0} (before : List A) (at : ℕ) (after : List A) (next 
   pub entries : after ≡ sets before at xs
   pub count : next ≡ at + length xs
 
-pub record Putting {A B : Type 0} (xs_for : List A → List B) (each : ℕ) (items : List A) (before : List B) (at : ℕ) (after : List B) (next i : ℕ) : Type 0 where
-  pub rest : sets after next (xs_for (drop i items)) ≡ sets before at (xs_for items)
-  pub place : next + length (xs_for (drop i items)) ≡ at + length (xs_for items)
-  pub long : length after ≡ length before
-  pub bound : next ≤ at + each * i
-
 abbrev pub arcs_of_cameras : (row cameras : List ℕ) → List Arc
 arcs_of_cameras row ks = camera_arcs (length row) (partner_in row) ks []
 
 abbrev pub arcs_of_fits : (row : List ℕ) → (fits : List Pair) → List Arc
 arcs_of_fits row fits = fit_arcs (partner_in row) fits
 
-pub record FlagsSet (fits : List Pair) (flags₀ flags : List Bool) (i : ℕ) : Type 0 where
-  pub long : length flags ≡ length flags₀
-  pub tells : (u : ℕ) → (is_flagged flags₀ u || is_included fits u) ≡ (is_flagged flags u || is_included (drop i fits) u)
+pub record FlagsSet (s : Stock) (flags : List Bool) (i : ℕ) : Type 0 where
+  pub long : length flags ≡ s.cameras
+  pub tells : (u : ℕ) → is_included s.fits u ≡ (is_flagged flags u || is_included (drop i s.fits) u)
 
-pub record Doubled (row : List ℕ) (fits : List Pair) (before after : List Arc) (next : ℕ) : Type 0 where
-  pub written : Put before 0 after next (doubled_table (length row) fits (partner_in row)).arcs
-  pub room : next ≤ length after
-  pub few : next ≤ arcs_most
+unfoldable pub marks_read : (flags nodes : List Bool) → List ℕ
+marks_read [] ns = []
+marks_read (b ∷ bs) [] = []
+marks_read (b ∷ bs) (o ∷ []) = []
+marks_read (b ∷ bs) (o ∷ i ∷ ns) = pick b (pick o 0 (pick i 1 2)) 3 ∷ marks_read bs ns
+
+abbrev pub Doubled : (row : List ℕ) (fits : List Pair) (before after : SliceVec Arc) → Type 0
+Doubled row fits before after = Extended before (doubled_table (length row) fits (partner_in row)).arcs after

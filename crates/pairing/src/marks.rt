@@ -2,26 +2,29 @@
 //   mark_of        a camera's mark, by its flag and its two nodes
 //   marks_of       every camera's
 ghost use Rattle.std.specs.Prelude.{◌≡◌, ◌*◌, ◌≤◌, length};
+ghost use Rattle.formats.specs.Marks.{mark_number};
 ghost use Rattle.counting.specs.Tests.{pick, below};
 ghost use Rattle.matching.specs.Stock.{is_included};
 ghost use Rattle.matching.specs.Flags.{is_flagged};
 ghost use Rattle.matching.specs.DoubledTable.{marks_by};
 
 use crate::stock::Stock;
+use counting::slice_vec::SliceVec;
 use formats::limits::CAMERAS_MOST;
+use formats::marks::Mark;
 
 // The mark of a camera, by its own flag, which is set where it has a fit, and those of its nodes.
-fn mark_of(fit: bool, outer: bool, inner: bool) -> u8
-    ensures { result ≡ pick fit (pick outer 0 (pick inner 1 2)) 3 }
+fn mark_of(fit: bool, outer: bool, inner: bool) -> Mark
+    ensures { mark_number result ≡ pick fit (pick outer 0 (pick inner 1 2)) 3 }
 {
     if !fit {
-        3
+        Mark::NoFit
     } else if outer {
-        0
+        Mark::Outer
     } else if inner {
-        1
+        Mark::Inner
     } else {
-        2
+        Mark::Other
     }
 }
 
@@ -31,15 +34,18 @@ pub fn marks_of(stock: &Stock<'_>, reached: &[bool], marks: &mut [u8])
     requires marks_in_bounds { 2 * length marks.old ≤ length reached.now }
     ensures { marks.new ≡ marks_by (is_included stock.now.fits.now) (is_flagged reached.now) (below (length marks.old)) }
 {
-    let mut flags = [false; CAMERAS_MOST];
+    let mut table = [false; CAMERAS_MOST];
+    let flags = &mut table[..stock.cameras];
     // invariant: specs/Table FlagsSet
     for fit in stock.fits {
-        flags[usize::from(fit.first)] = true;
-        flags[usize::from(fit.second)] = true;
+        let (first, second) = fit.numbers();
+        flags[first] = true;
+        flags[second] = true;
     }
 
-    // invariant: each camera so far has its mark
-    for (k, mark) in marks.iter_mut().enumerate() {
-        *mark = mark_of(flags[k], reached[2 * k], reached[2 * k + 1]);
+    let mut told = SliceVec::new(marks);
+    // invariant: with the marks of the cameras left, all are written
+    for (&flag, nodes) in flags.iter().zip(reached.chunks_exact(2)) {
+        told.push(u8::from(mark_of(flag, nodes[0], nodes[1])));
     }
 }

@@ -10,16 +10,16 @@
 // mark 00, inner 01, the rest 02, whichever pairs are lit; but a camera without a fit, which is outer, has 03, and the fits tell it.
 // (matching/proofs/Augmentation reachable_left, Certificates left_is_outer, Largest no_path_marks)
 // 5. The code's part: one search in proofs/OneSearch, the loop of searches in proofs/SearchRuns.
-//   NODES_MOST           nodes of a doubled table, at most
 //   Ending, PairsFound   how searches ended; how many pairs there are then, with that
 //   improve              one search
 //   run_searches         one after the other, up to so many, from the row of the lit pairs
-//   budget               the pairs that so many searches come to
+//   find_pairs           the pairs that so many searches come to, and the nodes that the last one reached
+//   budget               those pairs, for a budget
 //   plan                 a plan and every camera's mark, with searches enough
 ghost use Rattle.std.specs.Prelude.{◌≡◌, ◌+◌, ◌*◌, ◌≤◌, length};
 ghost use Rattle.pairing.specs.Table.{PairedFits};
 ghost use Rattle.pairing.specs.Lent.{stock_of};
-ghost use Rattle.pairing.specs.Plan.{Stepped, Ran, BudgetListed, PlanMarked};
+ghost use Rattle.pairing.specs.Plan.{Stepped, Ran, Found, BudgetListed, PlanMarked};
 
 use crate::marks::marks_of;
 use crate::row::{augment, pairs_of, row_of};
@@ -27,12 +27,10 @@ use crate::stock::Stock;
 use crate::table::fill_table;
 use arcs::graph::Graph;
 use counting::Pair;
-use formats::limits::{ARCS_MOST, CAMERAS_MOST, MATE_PAIRS_MOST, SEARCHES_MOST};
+use counting::slice_vec::SliceVec;
+use formats::limits::{ARCS_MOST, CAMERAS_MOST, NODES_MOST, SEARCHES_MOST};
 use search::answer::path_or_reached;
-use skew::NO_ARC;
-
-// Nodes of a doubled table, at most.
-const NODES_MOST: usize = 2 * MATE_PAIRS_MOST;
+use skew::Arc;
 
 // How searches ended: how many were run, and whether the last found none.
 // kept: a flag beside a count, since both are told in either case
@@ -50,19 +48,22 @@ pub struct PairsFound {
 }
 
 // One search: one pair more along the path found, or the table of reached nodes.
+// kept: a row beside its stock, which tells its length; with a struct of both each function that lights a pair would have to say that the stock is as it was
+// kept: how long the lent tables are is a clause, here and at what calls this; a type for them would be made at each call from the slices that are lent
 fn improve(row: &mut [u8], stock: &Stock<'_>, reached: &mut [bool]) -> bool
     requires paired_fits { PairedFits row.old (stock_of stock.now) }
     requires reached_len { length reached.old ≡ 2 * (length row.old + 1) }
     ensures { Stepped stock.now.fits.now row.old row.new reached.new result }
 {
-    let mut arcs = [NO_ARC; ARCS_MOST];
+    let mut places = [Arc::default(); ARCS_MOST];
     let mut path = [0; NODES_MOST];
     let n = row.len();
-    let count = fill_table(row, stock, &mut arcs);
+    let mut arcs = SliceVec::new(&mut places);
+    fill_table(&mut arcs, row, stock);
     let graph = Graph {
         pairs: n + 1,
         source: 2 * n,
-        arcs: &arcs[..count],
+        arcs: arcs.as_slice(),
     };
     match path_or_reached(&graph, reached, &mut path) {
         Some(end) => {
@@ -95,32 +96,47 @@ fn run_searches(most: usize, stock: &Stock<'_>, row: &mut [u8], reached: &mut [b
     }
 }
 
-// The pairs that so many searches come to at the front of `pairs`: how many, and how the searches ended.
+// The pairs that so many searches come to at the front of `pairs`: how many, and how the searches ended. The last of them tells the reached nodes.
+fn find_pairs(
+    most: usize,
+    stock: &Stock<'_>,
+    pairs: &mut [Pair],
+    reached: &mut [bool],
+) -> PairsFound
+    requires pairs_in_bounds { stock.now.cameras ≤ length pairs.old }
+    requires reached_len { length reached.old ≡ 2 * (stock.now.cameras + 1) }
+    ensures { Found most (stock_of stock.now) pairs.old pairs.new reached.new result }
+{
+    let mut row = [0; CAMERAS_MOST];
+    let row = &mut row[..stock.cameras];
+    let ending = run_searches(most, stock, row, reached);
+    let mut found = SliceVec::new(pairs);
+    pairs_of(&mut found, row);
+    PairsFound {
+        pairs: found.len,
+        ending,
+    }
+}
+
+// Those pairs, for a budget.
 pub fn budget(most: usize, stock: &Stock<'_>, pairs: &mut [Pair]) -> PairsFound
     requires { stock.now.cameras ≤ length pairs.old }
     ensures { BudgetListed most (stock_of stock.now) pairs.old pairs.new result }
 {
-    let mut row = [0; CAMERAS_MOST];
     let mut reached = [false; NODES_MOST];
-    let row = &mut row[..stock.cameras];
-    let reached = &mut reached[..2 * (stock.cameras + 1)];
-    let ending = run_searches(most, stock, row, reached);
-    let pairs = pairs_of(row, pairs);
-    PairsFound { pairs, ending }
+    find_pairs(most, stock, pairs, &mut reached[..2 * (stock.cameras + 1)])
 }
 
 // The pairs of a plan at the front of `pairs`, how many, and every camera's mark.
-// kept beside budget: they share the searches, and each tells what the other does not, the marks or how the searches ended
+// kept beside budget: what they share is find_pairs; one tells how the searches ended, the other the marks
 pub fn plan(stock: &Stock<'_>, pairs: &mut [Pair], marks: &mut [u8]) -> usize
     requires marks_len { length marks.old ≡ stock.now.cameras }
     requires pairs_in_bounds { stock.now.cameras ≤ length pairs.old }
     ensures { PlanMarked (stock_of stock.now) pairs.old pairs.new marks.new result }
 {
-    let mut row = [0; CAMERAS_MOST];
     let mut reached = [false; NODES_MOST];
-    let row = &mut row[..stock.cameras];
     let reached = &mut reached[..2 * (stock.cameras + 1)];
-    run_searches(SEARCHES_MOST, stock, row, reached);
+    let found = find_pairs(SEARCHES_MOST, stock, pairs, reached);
     marks_of(stock, reached, marks);
-    pairs_of(row, pairs)
+    found.pairs
 }

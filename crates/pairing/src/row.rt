@@ -3,20 +3,22 @@
 //   augment                   the rotations of a path
 //   row_of                    the row of a stock's lit pairs
 //   put_pair, pairs_of        a camera's pair written; the pairs of a row in order
-ghost use Rattle.std.specs.Prelude.{◌≡◌, ◌<◌, ◌≤◌, length, get_or};
+ghost use Rattle.std.specs.Prelude.{◌≡◌, ◌+◌, ◌<◌, ◌≤◌, length, get_or};
 ghost use Rattle.formats.specs.Limits.{cameras_most};
+ghost use Rattle.counting.specs.SliceVecs.{Extended};
 ghost use Rattle.counting.specs.Tests.{below};
 ghost use Rattle.matching.specs.Matching.{partner, pair_of, pairs_in_order};
 ghost use Rattle.matching.specs.Rotation.{rotate_along, Rotates};
 ghost use Rattle.matching.specs.Row.{partner_in, rotate_row};
-ghost use Rattle.pairing.specs.Table.{Put};
 ghost use Rattle.pairing.specs.Row.{row_graph};
 
 use crate::stock::Stock;
 use counting::Pair;
+use counting::slice_vec::SliceVec;
 use skew::Arc;
 
 // u, which is unlit, is lit with v; v's old partner becomes unlit.
+// kept: an unlit camera has its own number, and no option, as the theory's involution has it: a rotation needs no case for it
 fn rotate(row: &mut [u8], u: u8, v: u8)
     requires u_in_bounds { u < length row.old }
     requires v_in_bounds { v < length row.old }
@@ -47,43 +49,40 @@ pub fn row_of(row: &mut [u8], stock: &Stock<'_>)
     ensures { partner_in row.new ≡ partner stock.now.lit.now }
 {
     // invariant: each camera so far is its own partner
+    // kept: numbered by `enumerate`; what `iter_mut` writes under `zip` no proof knows once the loop is over
     for (k, own) in row.iter_mut().enumerate() {
-        *own = k as u8;
+        *own = k as u8; // kept: no From to fewer bits, and try_from asks anew what is proved
     }
 
     // invariant: specs/Row LitFrom
     for pair in stock.lit.iter().rev() {
-        row[usize::from(pair.second)] = pair.first;
-        row[usize::from(pair.first)] = pair.second;
+        let (first, second) = pair.numbers();
+        row[second] = pair.first;
+        row[first] = pair.second;
     }
 }
 
 // Camera u with its partner v, where that is the larger.
-fn put_pair(pairs: &mut [Pair], at: usize, u: u8, v: u8) -> usize
-    requires { at < length pairs.old }
-    ensures { Put pairs.old at pairs.new result (pair_of u v) }
+fn put_pair(pairs: &mut SliceVec<'_, Pair>, u: u8, v: u8)
+    requires { pairs.old.len + length (pair_of u v) ≤ length pairs.old.slice.now }
+    ensures { Extended pairs.old (pair_of u v) pairs.new }
 {
     if u < v {
-        pairs[at] = Pair {
+        pairs.push(Pair {
             first: u,
             second: v,
-        };
-        at + 1
-    } else {
-        at
+        });
     }
 }
 
-// The pairs of a row in order, at the front of `pairs`: how many.
-pub fn pairs_of(row: &[u8], pairs: &mut [Pair]) -> usize
+// The pairs of a row in order.
+pub fn pairs_of(pairs: &mut SliceVec<'_, Pair>, row: &[u8])
     requires row_len_bound { length row.now ≤ cameras_most }
-    requires row_in_bounds { length row.now ≤ length pairs.old }
-    ensures { Put pairs.old 0 pairs.new result (pairs_in_order (partner_in row.now) (below (length row.now))) }
+    requires room { pairs.old.len + length row.now ≤ length pairs.old.slice.now }
+    ensures { Extended pairs.old (pairs_in_order (partner_in row.now) (below (length row.now))) pairs.new }
 {
-    let mut at = 0;
-    // invariant: specs/Table Putting
-    for (k, &partner) in row.iter().enumerate() {
-        at = put_pair(pairs, at, k as u8, partner);
+    // invariant: the pairs of the cameras passed are written
+    for (&partner, k) in row.iter().zip(0u8..) {
+        put_pair(pairs, k, partner);
     }
-    at
 }

@@ -3,34 +3,35 @@
 //   put_camera, put_cameras      the arcs of a camera, of every camera
 //   put_fit, put_fits            the arcs of a fit, of every fit that is not lit
 //   fill_table                   all of them
-ghost use Rattle.std.specs.Prelude.{◌≡◌, [], ◌∷◌, ℕ, ◌+◌, ◌*◌, ◌<◌, ◌≤◌, length, get_or};
+ghost use Rattle.std.specs.Prelude.{[], ◌∷◌, ℕ, ◌+◌, ◌*◌, ◌<◌, ◌≤◌, length, get_or};
 ghost use Rattle.formats.specs.Limits.{arcs_most, cameras_most};
+ghost use Rattle.counting.specs.SliceVecs.{Extended};
 ghost use Rattle.counting.specs.Tests.{below};
 ghost use Rattle.matching.specs.DoubledTable.{arcs_of_camera, arcs_of_fit};
-ghost use Rattle.pairing.specs.Table.{PairedFits, Put, arcs_of_cameras, arcs_of_fits, Doubled};
+ghost use Rattle.pairing.specs.Table.{PairedFits, arcs_of_cameras, arcs_of_fits, Doubled};
 ghost use Rattle.pairing.specs.Lent.{stock_of};
 
 use crate::stock::Stock;
 use counting::Pair;
+use counting::slice_vec::SliceVec;
 use skew::Arc;
 
-// An arc and its mate, at `at`.
-fn put(arcs: &mut [Arc], at: usize, arc: Arc, mate: Arc) -> usize
-    requires { at + 1 < length arcs.old }
-    ensures { Put arcs.old at arcs.new result (arc ∷ mate ∷ []) }
+// An arc and its mate.
+fn put(arcs: &mut SliceVec<'_, Arc>, arc: Arc, mate: Arc)
+    requires { arcs.old.len + 2 ≤ length arcs.old.slice.now }
+    ensures { Extended arcs.old (arc ∷ mate ∷ []) arcs.new }
 {
-    arcs[at] = arc;
-    arcs[at + 1] = mate;
-    at + 2
+    arcs.push(arc);
+    arcs.push(mate);
 }
 
 // What the pairing says of camera k with partner w.
-fn put_camera(n: u8, k: u8, w: u8, arcs: &mut [Arc], at: usize) -> usize
+fn put_camera(arcs: &mut SliceVec<'_, Arc>, n: u8, k: u8, w: u8)
     requires n_le_cameras_most { n ≤ cameras_most }
     requires k_lt_n { k < n }
     requires w_lt_n { w < n }
-    requires at_in_bounds { at + 1 < length arcs.old }
-    ensures { Put arcs.old at arcs.new result (arcs_of_camera n k w) }
+    requires room { arcs.old.len + length (arcs_of_camera n k w) ≤ length arcs.old.slice.now }
+    ensures { Extended arcs.old (arcs_of_camera n k w) arcs.new }
 {
     if w == k {
         let from_source = Arc {
@@ -41,7 +42,7 @@ fn put_camera(n: u8, k: u8, w: u8, arcs: &mut [Arc], at: usize) -> usize
             tail: 2 * k + 1,
             head: 2 * n + 1,
         };
-        put(arcs, at, from_source, to_mate)
+        put(arcs, from_source, to_mate);
     } else if k < w {
         let lit = Arc {
             tail: 2 * k + 1,
@@ -51,70 +52,62 @@ fn put_camera(n: u8, k: u8, w: u8, arcs: &mut [Arc], at: usize) -> usize
             tail: 2 * w + 1,
             head: 2 * k,
         };
-        put(arcs, at, lit, mate)
-    } else {
-        at
+        put(arcs, lit, mate);
     }
 }
 
 // A fit, whose first camera has partner w: nothing if it is lit.
-fn put_fit(fit: Pair, w: u8, arcs: &mut [Arc], at: usize) -> usize
-    requires first_lt_cameras_most { fit.first < cameras_most }
-    requires second_lt_cameras_most { fit.second < cameras_most }
-    requires at_in_bounds { at + 1 < length arcs.old }
-    ensures { Put arcs.old at arcs.new result (arcs_of_fit fit.first fit.second w) }
+fn put_fit(arcs: &mut SliceVec<'_, Arc>, fit: Pair, w: u8)
+    requires cameras { (fit.first < fit.second) × (fit.second < cameras_most) }
+    requires room { arcs.old.len + length (arcs_of_fit fit.first fit.second w) ≤ length arcs.old.slice.now }
+    ensures { Extended arcs.old (arcs_of_fit fit.first fit.second w) arcs.new }
 {
-    if w == fit.second {
-        return at;
+    if w != fit.second {
+        let other = Arc {
+            tail: 2 * fit.first,
+            head: 2 * fit.second + 1,
+        };
+        let mate = Arc {
+            tail: 2 * fit.second,
+            head: 2 * fit.first + 1,
+        };
+        put(arcs, other, mate);
     }
-    let other = Arc {
-        tail: 2 * fit.first,
-        head: 2 * fit.second + 1,
-    };
-    let mate = Arc {
-        tail: 2 * fit.second,
-        head: 2 * fit.first + 1,
-    };
-    put(arcs, at, other, mate)
 }
 
 // The arcs of every camera.
-fn put_cameras(row: &[u8], arcs: &mut [Arc]) -> usize
+fn put_cameras(arcs: &mut SliceVec<'_, Arc>, row: &[u8])
     requires row_len_bound { length row.now ≤ cameras_most }
     requires by_index { (k : ℕ) → k < length row.now → get_or row.now k 0 < length row.now }
-    requires row_in_bounds { 2 * length row.now ≤ length arcs.old }
-    ensures { Put arcs.old 0 arcs.new result (arcs_of_cameras row.now (below (length row.now))) }
+    requires room { arcs.old.len + 2 * length row.now ≤ length arcs.old.slice.now }
+    ensures { Extended arcs.old (arcs_of_cameras row.now (below (length row.now))) arcs.new }
 {
-    let n = row.len() as u8;
-    let mut at = 0;
-    // invariant: specs/Table Putting
-    for (k, &w) in row.iter().enumerate() {
-        at = put_camera(n, k as u8, w, arcs, at);
+    let n = row.len() as u8; // kept: no From to fewer bits, and try_from asks anew what is proved
+    // invariant: the arcs of the cameras passed are written
+    for (&w, k) in row.iter().zip(0u8..) {
+        put_camera(arcs, n, k, w);
     }
-    at
 }
 
 // The arcs of every fit that is not lit.
-// kept beside put_cameras: one goes through the row, the other through the fits, and the arcs of each are others
-fn put_fits(row: &[u8], stock: &Stock<'_>, arcs: &mut [Arc], start: usize) -> usize
-    requires row_len { length row.now ≡ stock.now.cameras }
-    requires fits_in_bounds { start + 2 * length stock.now.fits.now ≤ length arcs.old }
-    ensures { Put arcs.old start arcs.new result (arcs_of_fits row.now stock.now.fits.now) }
+// kept: a loop beside that of put_cameras; one goes through the row with its numbers, the other through the fits, and the arcs of each are others
+fn put_fits(arcs: &mut SliceVec<'_, Arc>, row: &[u8], stock: &Stock<'_>)
+    requires paired_fits { PairedFits row.now (stock_of stock.now) }
+    requires room { arcs.old.len + 2 * length stock.now.fits.now ≤ length arcs.old.slice.now }
+    ensures { Extended arcs.old (arcs_of_fits row.now stock.now.fits.now) arcs.new }
 {
-    let mut at = start;
-    // invariant: specs/Table Putting
+    // invariant: the arcs of the fits passed are written
     for &fit in stock.fits {
-        at = put_fit(fit, row[usize::from(fit.first)], arcs, at);
+        put_fit(arcs, fit, row[usize::from(fit.first)]);
     }
-    at
 }
 
-// The doubled table of the row: how many arcs, in the front of `arcs`.
-pub fn fill_table(row: &[u8], stock: &Stock<'_>, arcs: &mut [Arc]) -> usize
+// The doubled table of the row.
+pub fn fill_table(arcs: &mut SliceVec<'_, Arc>, row: &[u8], stock: &Stock<'_>)
     requires paired_fits { PairedFits row.now (stock_of stock.now) }
-    requires arcs_most_in_bounds { arcs_most ≤ length arcs.old }
-    ensures { Doubled row.now stock.now.fits.now arcs.old arcs.new result }
+    requires room { arcs.old.len + arcs_most ≤ length arcs.old.slice.now }
+    ensures { Doubled row.now stock.now.fits.now arcs.old arcs.new }
 {
-    let start = put_cameras(row, arcs);
-    put_fits(row, stock, arcs, start)
+    put_cameras(arcs, row);
+    put_fits(arcs, row, stock);
 }

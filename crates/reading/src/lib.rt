@@ -16,7 +16,7 @@ pub fn read_full<R: Read>(reader: &mut R, buffer: &mut [u8]) -> usize
     ensures { IsPrefixLen result buffer.new }
 {
     let mut done = 0;
-    // kept: a place that jumps by as many bytes as a read gives
+    // kept: a place that jumps by as many bytes as a read gives, and a read may fail; no method of Read fills a slice as far as there is input
     while done < buffer.len() {
         match reader.read(&mut buffer[done..]) {
             Ok(0) | Err(_) => break,

@@ -12,14 +12,16 @@ use mathlib.Core.Bool.{Bool, true, false}
 use mathlib.Core.List.{List}
 use Prim.Native.Nat.{ℕ, zero, suc, ◌+◌, ◌*◌, ◌≤◌, ◌<◌}
 use native.Mathlib.Omega.{arith}
-use lib.Dec.{ltb, eqb}
+use lib.Dec.{eqb}
 use lib.ListN.{length, get_or, take, replicate}
 use lib.Seq.{ext_get_or}
 use Rattle.std.specs.Prelude.{Option, Some, None}
-use Rattle.std.specs.Borrow.{Bor}
+use Rattle.std.specs.Borrow.{Bor, MutBor}
 use Rattle.std.specs.Fn.{Mut, CalledAt}
 use Rattle.formats.specs.Limits.{mate_pairs_most}
 use Rattle.counting.specs.Tests.{up_from}
+use Rattle.counting.specs.SliceVecs.{Begun}
+use Rattle.counting.specs.declared.slice_vec.SliceVec.{SliceVec}
 use Rattle.counting.proofs.Booleans.{and_left}
 use Rattle.counting.proofs.Range.{pigeonhole}
 use Rattle.counting.proofs.Stores.{take_sets}
@@ -28,7 +30,7 @@ use Rattle.skew.specs.Paths.{head, WellFormed}
 use Rattle.skew.specs.Search.{State, Earlier}
 use Rattle.skew.proofs.Paths.{regular_path, nodes_within, length_nodes}
 use Rattle.skew.proofs.Restoration.{restored_path}
-use Rattle.search.specs.Tables.{Labels, labels, queue, tables}
+use Rattle.search.specs.Tables.{Labels, labels, is_reached, queue, tables}
 use Rattle.search.specs.State.{state_in, Clear}
 use Rattle.std.proofs.lemmas.List.{take-replicate}
 use Rattle.search.specs.Queue.{Blank, SearchEnded}
@@ -71,7 +73,7 @@ module _ {g : Graph} {L : Labels} {found : Bool} (E : SearchEnded g L found) whe
             (λ q. inl q) (λ q. inr q.1) (earlier v l h).head_mate;
       }
     where
-      earlier : (v : ℕ) → ltb 0 (get_or L.births v 0) ≡ true → get_or L.vias v 0 < length g.arcs → Earlier g st v
+      earlier : (v : ℕ) → is_reached L v ≡ true → get_or L.vias v 0 < length g.arcs → Earlier g st v
       earlier v l h = let I = E.search.state.invariant in I.via_earlier v l (λ q. omega (arith, I.source_via, ap st.via q, h))
 
   module _ (yes : found ≡ true) {m : ℕ} (em : m ≡ mate g.source) where
@@ -81,15 +83,23 @@ module _ {g : Graph} {L : Labels} {found : Bool} (E : SearchEnded g L found) whe
     short : length wanted.0 < nodes g
     short = wanted_short g E.search.table.well_formed wanted.0 wanted.2
 
-    pub restorable : {size : ℕ} → 2 * g.pairs ≤ size → Restorable g L g.source m 0 size
-    restorable h = rw em (record { labels = label_table; path = wanted.0; route = wanted.1; room = omega (arith, short) })
+    module _ {slice : MutBor (List ℕ)} {w : SliceVec ℕ} (B : Begun slice w) where
+      pub restorable : 2 * g.pairs ≤ length slice.now → Restorable g L g.source m w.len (length w.slice.now)
+      restorable h =
+          rw em (record { labels = label_table; path = wanted.0; route = wanted.1; room = omega (arith, short, B.empty, ap length B.slice_is) })
 
-    pub path_written : {k : ℕ} {out out' : List ℕ} → Restored g L g.source m 0 out out' k →
-        PathWritten g k out out'
-    path_written R =
-        let p = wanted.0 in
-        let w = R p (subst (λ (y : ℕ). Route g L g.source y p) (sym em) wanted.1) in
-        record { arcs = p; wanted = wanted.2; count = omega (arith, w.0); few = omega (arith, short, w.0); written = w.1 }
+      pub path_written : {w' : SliceVec ℕ} {after : List ℕ} → Restored g L g.source m w w' →
+          (slice.ghost_name ≡ w'.slice.ghost_name → after ≡ w'.slice.now) → PathWritten g w'.len slice.now after
+      path_written R same =
+          let p = wanted.0 in
+          let x = R p (subst (λ (y : ℕ). Route g L g.source y p) (sym em) wanted.1) in
+          record {
+            arcs = p;
+            wanted = wanted.2;
+            count = omega (arith, x.len_is, B.empty);
+            few = omega (arith, short, x.len_is, B.empty);
+            written = same (sym (x.same ∙ B.same)) ∙ rw (B.slice_is, B.empty) at x.slice_is;
+          }
 
 -- THE TABLE OF THE REACHED NODES
 reached_at : (g : Graph) (a k i : ℕ) → i < k → get_or (reached_from g (up_from a k)) i false ≡ is_reachable g (a + i)
@@ -131,16 +141,19 @@ module _ {F : Type 0} (C : Mut F (Bor lent_labels.Labels × Unit {0}) (Unit {0})
 front_clear : {A : Type 0} (none : A) (n size : ℕ) → n ≤ size → Clear none n (take n (replicate size none))
 front_clear none n size h = rw (take-replicate n size none h) (cleared none n)
 
-pub fronts_blank : (n : ℕ) → n ≤ mate_pairs_most →
-    let front : List ℕ = take (2 * n) (replicate 256 0) in
-    Blank n (tables (labels front front (take n (replicate mate_pairs_most 0))) (take (2 * n) (replicate 256 false)) (queue front 0) 0)
-fronts_blank n h =
+abbrev front : (mate_pairs : ℕ) → List ℕ
+front n = take (2 * n) (replicate 256 0)
+
+pub fronts_blank : {n m : ℕ} {vs : List ℕ} → n ≤ mate_pairs_most → vs ≡ front n → m ≡ 0 →
+    Blank n (tables (labels (front n) (front n) (take n (replicate mate_pairs_most 0))) (take (2 * n) (replicate 256 false)) (queue vs m 0) 0)
+fronts_blank {n} h e none =
     let zeros = front_clear {A = ℕ} 0 (2 * n) 256 (omega arith) in
     record {
       births_clear = zeros;
       marks_clear = front_clear false (2 * n) 256 (omega arith);
       vias_long = zeros.long;
       bases_long = (front_clear {A = ℕ} 0 n mate_pairs_most h).long;
-      queue_long = zeros.long;
-      queue_empty = refl;
+      queue_long = rw e zeros.long;
+      queue_empty = none;
+      none_taken = refl;
     }

@@ -3,8 +3,8 @@
 --   Ascending g L i e ..                so by every clock at which arc i asks for a step; and there is one. e is i or its mate
 --   ascending_start                     before the first absorption
 --   mates, turned                       seen from the arc's mate the ends change places
---   Standing, standing                  where the base at q and its mate stand in the tables
---   Rising, rising                      where the base at q is not the earlier one, it can be absorbed; once it is, that end has an earlier base
+--   Standing                            where a base and its mate stand in the tables
+--   Rising, rising, rising_other        where the base at q, or at p, is not the earlier one, it can be absorbed; once it is, that end has an earlier base
 --   ascended                            both ends at one base
 use mathlib.Core.Path.{◌≡◌, refl, sym, ap, subst, ◌∙◌}
 use mathlib.Core.Logic.{◌⊎◌, inl, inr, ◌≢◌, ⊎_elim}
@@ -195,15 +195,29 @@ pub record Ascending (g : Graph) (L : Labels) (i e : ℕ) (N : Labels) (marks : 
   pub some : (k : ℕ) × Bridging g L k i
   pub every : (k : ℕ) → Bridging g L k i → Between g L k e N.vias marks p q
   pub now_is : N ≡ labels L.births N.vias L.bases
+  pub at_p : Standing N p
+  pub at_q : Standing N q
 
 pub record Rising (g : Graph) (L : Labels) (i e : ℕ) (N : Labels) (marks : List Bool) (p q : ℕ) : Type 0 where
   pub absorbs : Absorbs g N marks q e
   pub next : {N' : Labels} {marks' : List Bool} {r : ℕ} → Absorbed g N marks q e N' marks' r →
       Ascending g L i e N' marks' p r × (get_or L.births r 0 < get_or L.births q 0)
 
+ascending : {g : Graph} {L : Labels} {i e : ℕ} {N : Labels} {marks : List Bool} {p q : ℕ} → (k : ℕ) × Bridging g L k i →
+    ((k : ℕ) → Bridging g L k i → Between g L k e N.vias marks p q) → N ≡ labels L.births N.vias L.bases → Ascending g L i e N marks p q
+ascending {p = p} {q} S every now_is =
+    let one = every S.0 S.1 in
+    record {
+      some = S;
+      every = every;
+      now_is = now_is;
+      at_p = subst (λ (M : Labels). Standing M p) (sym now_is) (stands (mirror one));
+      at_q = subst (λ (M : Labels). Standing M q) (sym now_is) (stands one);
+    }
+
 pub ascending_start : {g : Graph} {L : Labels} {i : ℕ} {marks : List Bool} → (k : ℕ) × Bridging g L k i → Clear false (length L.births) marks →
     Ascending g L i i L marks (get_or L.bases (tail g i / 2) 0) (get_or L.bases (mate (head g i) / 2) 0)
-ascending_start S C = record { some = S; every = λ k B. between_start B C; now_is = refl }
+ascending_start S C = ascending S (λ k B. between_start B C) refl
 
 pub mates : {e f : ℕ} → f ≡ mate e → e ≡ mate f
 mates {e} m = sym (ap mate m ∙ mate_mate e)
@@ -213,10 +227,7 @@ module _ {g : Graph} {L : Labels} {i e : ℕ} {N : Labels} {marks : List Bool} {
   one = A.every A.some.0 A.some.1
 
   pub turned : {f : ℕ} → f ≡ mate e → Ascending g L i f N marks q p
-  turned m = record { some = A.some; every = λ k B. rw m (mirror (A.every k B)); now_is = A.now_is }
-
-  pub standing : Standing N q
-  standing = subst (λ (M : Labels). Standing M q) (sym A.now_is) (stands one)
+  turned m = ascending A.some (λ k B. rw m (mirror (A.every k B))) A.now_is
 
   pub rising : p ≢ q → get_or N.births p 0 ≤ get_or N.births q 0 → Rising g L i e N marks p q
   rising ne h =
@@ -226,11 +237,8 @@ module _ {g : Graph} {L : Labels} {i e : ℕ} {N : Labels} {marks : List Bool} {
         next = λ {N'} {marks'} {r} b.
             let d : Absorbed g (labels L.births N.vias L.bases) marks q e N' marks' r =
             subst (λ (M : Labels). Absorbed g M marks q e N' marks' r) A.now_is b in (
-              record {
-                some = A.some;
-                every = λ k B. let C = A.every k B in rw (d.labels_are, d.marks_are, d.parent, ← parent_is C ne le) (next C ne le);
-                now_is = rw d.labels_are;
-              },
+              ascending A.some (λ k B. let C = A.every k B in rw (d.labels_are, d.marks_are, d.parent, ← parent_is C ne le) (next C ne le))
+                  (rw d.labels_are),
               rw (d.parent, ← parent_is one ne le) (base_arc one ne le).base_earlier,
             );
       }
@@ -239,3 +247,7 @@ module _ {g : Graph} {L : Labels} {i e : ℕ} {N : Labels} {marks : List Bool} {
   ascended same {N'} f k B =
       let d : N' ≡ labelled (labels L.births N.vias L.bases) (mate p) e = subst (λ (M : Labels). N' ≡ labelled M (mate p) e) A.now_is f in
       rw d (met (A.every k B) same)
+
+pub rising_other : {g : Graph} {L : Labels} {i e f : ℕ} {N : Labels} {marks : List Bool} {p q : ℕ} → Ascending g L i e N marks p q → f ≡ mate e →
+    p ≢ q → get_or N.births q 0 < get_or N.births p 0 → Rising g L i f N marks q p
+rising_other A m ne h = rising (turned A m) (λ e. ne (sym e)) (omega arith)

@@ -1,11 +1,11 @@
 -- The bud step on the tables.
---   MapsAsked, maps_asked      what the loops over births and bases ask, and the place of the absorbing base's mate
+--   marks_fit                  after an ascent bases, and the absorbing base's mate, stand within the marks
 --   bud_stepped, bud_stepped_old    births and bases mapped after an ascent: a bud step, with that mate's birth stored where it had none
 use mathlib.Core.Path.{◌≡◌, refl, sym, subst, ◌∙◌}
 use mathlib.Core.Logic.{◌⊎◌, inl, inr, ◌≢◌, ⊎_elim}
 use mathlib.Core.Bool.{Bool, true, false}
 use mathlib.Core.List.{List}
-use Prim.Native.Nat.{ℕ, ◌+◌, ◌*◌, ◌-◌, ◌/◌, ◌%◌, ◌≤◌, ◌<◌}
+use Prim.Native.Nat.{ℕ, ◌+◌, ◌-◌, ◌/◌, ◌%◌, ◌≤◌, ◌<◌}
 use native.Mathlib.Numerals.{add-one}
 use native.Mathlib.Omega.{arith}
 use lib.Dec.{ltb, eqb}
@@ -25,16 +25,8 @@ use Rattle.skew.proofs.Measure.{bud_step_less}
 use Rattle.skew.proofs.Settled.{bud_step_settled, bud_step_settles}
 use Rattle.search.specs.Tables.{Labels, labels}
 use Rattle.search.specs.State.{state_in, StateHeld, SearchHeld, absorbed_in, vias_of}
-use Rattle.search.specs.Steps.{birth_after, births_after, base_after, bases_after, Bridging, Ascended, born_before, BudStepped}
+use Rattle.search.specs.Steps.{birth_after, births_after, base_after, bases_after, Bridging, MarksFit, Ascended, born_before, BudStepped}
 use Rattle.search.proofs.States.{not_reached, reached_is, unreached_is, base_at}
-
-pub record MapsAsked (L : Labels) (marks : List Bool) (d : ℕ) : Type 0 where
-  pub pairs : length L.births ≡ 2 * length L.bases
-  pub marks_long : length L.births ≡ length marks
-  pub base_marked : (j : ℕ) → j < length L.bases → get_or L.bases j 0 < length marks
-  pub small : d < 256
-  pub mate_small : mate d < 256
-  pub mate_in_births : mate d < length L.births
 
 -- a birth mapped twice
 twice : (birth : ℕ) (mark : Bool) (k : ℕ) → 0 < k → birth_after (birth_after birth mark k) true k ≡ birth_after birth true k
@@ -62,26 +54,17 @@ module _ {g : Graph} {L : Labels} {k i : ℕ} {N : Labels} {marks : List Bool} {
   mate_node : mate d < nodes g
   mate_node = mate_below d (nodes g) (omega arith) A.is_node
 
-  asked : MapsAsked L marks d
-  asked =
+  pub marks_fit : MarksFit N marks d
+  marks_fit =
+      let b = A.births_same in
+      let s = A.bases_same in
       record {
-        pairs = omega (arith, H.births_long, H.bases_long);
-        marks_long = omega (arith, H.births_long, A.marks_long);
-        base_marked = λ j l. omega (arith, H.base_node j (omega (arith, H.bases_long)), A.marks_long);
+        pairs = rw (b, s) (omega (arith, H.births_long, H.bases_long));
+        marks_long = rw b (omega (arith, H.births_long, A.marks_long));
+        base_marked = rw s (λ j l. omega (arith, H.base_node j (omega (arith, H.bases_long)), A.marks_long));
         small = omega (arith, A.is_node, S.table.pairs_few);
         mate_small = omega (arith, mate_node, S.table.pairs_few);
-        mate_in_births = omega (arith, mate_node, H.births_long);
-      }
-
-  pub maps_asked : MapsAsked N marks d
-  maps_asked =
-      record {
-        pairs = rw (A.births_same, A.bases_same) asked.pairs;
-        marks_long = rw A.births_same asked.marks_long;
-        base_marked = rw A.bases_same asked.base_marked;
-        small = asked.small;
-        mate_small = asked.mate_small;
-        mate_in_births = rw A.births_same asked.mate_in_births;
+        mate_in_births = rw b (omega (arith, mate_node, H.births_long));
       }
 
   -- what is no node has no mark
@@ -224,10 +207,11 @@ module _ {g : Graph} {L : Labels} {k i : ℕ} {N : Labels} {marks : List Bool} {
     bases : Mapped (bases_after marks d) L.bases bases' (length L.bases)
     bases = rw A.bases_same at MS
 
-    pub bud_stepped : get_or births₁ m 0 ≡ 0 → BudStepped g L k i (labels (set births₁ m k) vias bases')
-    bud_stepped z = rw e (stepped births bases (rw (rw e at z)))
+    pub bud_stepped : ltb 0 (get_or births₁ m 0) ≡ false → BudStepped g L k i (labels (set births₁ m k) vias bases')
+    bud_stepped f = rw e (stepped births bases (rw (unreached_is (get_or births₁ (mate d) 0) (rw e at f))))
 
-    pub bud_stepped_old : get_or births₁ m 0 ≢ 0 → BudStepped g L k i (labels births₁ vias bases')
-    bud_stepped_old n =
+    pub bud_stepped_old : ltb 0 (get_or births₁ m 0) ≡ true → BudStepped g L k i (labels births₁ vias bases')
+    bud_stepped_old t =
+        let n = reached_is (get_or births₁ (mate d) 0) (rw e at t) in
         subst (λ (l : List ℕ). BudStepped g L k i (labels l vias bases')) (set-get_or births₁ (mate d) 0)
-        (stepped births bases (rw (ne_eqb (get_or births₁ (mate d) 0) 0 (rw e at n))))
+        (stepped births bases (rw (ne_eqb (get_or births₁ (mate d) 0) 0 (λ q. omega (arith, n)))))

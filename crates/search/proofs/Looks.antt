@@ -1,7 +1,7 @@
 -- A look at one arc of a reached node: whether it is settled, and what the tables hold after the step that it asks for.
 --   settled_tells, unsettled_tells          what `is_settled` answers: the arc is settled, or asks for a bud
---   LookReads g T i y z                     y is the head of arc i and z is y's mate; where `look` reads
---   look_reads, births_clear                these bounds; the marks are clear
+--   births_clear                            the marks are clear
+--   head_within                             the head stands within the tables
 --   looked_old                              the head was reached already
 --   new_room, looked_new                    the head is new: there is room in the queue, and it was reached
 --   looked_settled                          the head's mate is reached and the arc is settled
@@ -10,7 +10,7 @@ use mathlib.Core.Path.{◌≡◌, sym, ap, subst, ◌∙◌}
 use mathlib.Core.Logic.{inl, inr, ◌≢◌, ⊎_elim}
 use mathlib.Core.Bool.{Bool, true, false}
 use mathlib.Core.List.{List}
-use Prim.Native.Nat.{ℕ, ◌+◌, ◌*◌, ◌/◌, ◌≤◌, ◌<◌}
+use Prim.Native.Nat.{ℕ, ◌+◌, ◌/◌, ◌<◌}
 use native.Mathlib.Omega.{arith}
 use lib.Dec.{eqb}
 use lib.ListN.{length, get_or}
@@ -21,13 +21,12 @@ use Rattle.skew.specs.Paths.{tail, head}
 use Rattle.skew.specs.Search.{State, Invariant}
 use Rattle.skew.specs.Steps.{Settled, SettledArc, Touched}
 use Rattle.skew.specs.Ascent.{Unsettled}
-use Rattle.skew.proofs.Mates.{mate_below}
 use Rattle.skew.proofs.Settled.{tree_step_reached, tree_step_settled}
-use Rattle.search.specs.Tables.{Labels, Queue, Tables, tables}
+use Rattle.search.specs.Tables.{Labels, is_reached, Queue, Tables, tables}
 use Rattle.search.specs.State.{state_in, state_of, StateHeld, Clear}
-use Rattle.search.specs.Steps.{Leaving, NewHead, Joining, Bridging, head_reached, TreeStepped, BudStepped}
+use Rattle.search.specs.Steps.{Leaving, NewHead, Joining, Bridging, NodeWithin, head_reached, TreeStepped, BudStepped}
 use Rattle.search.specs.Queue.{Queued, queued_below, pushed, Enqueued, is_settled, Looking, ArcLooked}
-use Rattle.search.proofs.States.{is_reached, not_reached, reached_is_node, ArcBounds, arc_bounds, tail_base, head_base}
+use Rattle.search.proofs.States.{reached_is_node, ArcBounds, arc_bounds, tail_base, head_base}
 use Rattle.search.proofs.TreeSteps.{tree_stepped}
 use Rattle.search.proofs.Queues.{queued_same, enqueued_same, enqueued_none, enqueued_add, queue_room}
 
@@ -100,14 +99,6 @@ module _ {g : Graph} {L : Labels} {k i : ℕ} (J : Joining g L k i) where
       }
 
 -- THE LOOK
-pub record LookReads (g : Graph) (T : Tables) (i y z : ℕ) : Type 0 where
-  pub is_head : y ≡ head g i
-  pub mate_of : z ≡ mate y
-  pub head_in_births : y < length T.labels.births
-  pub mate_in_births : z < length T.labels.births
-  pub queue_few : length T.queue.nodes ≤ 256
-  pub clock_few : T.clock ≤ 1000
-
 module _ {g : Graph} {T : Tables} {i : ℕ} (A : Looking g T i) where
   H : StateHeld g T.labels T.clock
   H = A.leaving.held.state
@@ -117,18 +108,6 @@ module _ {g : Graph} {T : Tables} {i : ℕ} (A : Looking g T i) where
 
   pub births_clear : Clear false (length T.labels.births) T.marks
   births_clear = rw H.births_long A.clear
-
-  pub look_reads : {y z : ℕ} → y ≡ head g i → z ≡ mate y → LookReads g T i y z
-  look_reads {y} ey ez =
-      let l : y < 2 * g.pairs = rw ey B.head_low in
-      record {
-        is_head = ey;
-        mate_of = ez;
-        head_in_births = omega (arith, B.births_long);
-        mate_in_births = rw ez (omega (arith, B.births_long, mate_below y (2 * g.pairs) (omega arith) l));
-        queue_few = omega (arith, A.queue_long, B.pairs_few);
-        clock_few = omega (arith, H.clock_bound);
-      }
 
   unchanged : Touched g (state_of T) i → ((state_of T).reached (mate (head g i)) ≡ true → SettledArc g (state_of T) i) →
       ArcLooked g T i T
@@ -142,33 +121,35 @@ module _ {g : Graph} {T : Tables} {i : ℕ} (A : Looking g T i) where
         enqueued = enqueued_none A.queued;
       }
 
-  module _ {y z : ℕ} (R : LookReads g T i y z) where
+  module _ {y z : ℕ} (ey : y ≡ head g i) (ez : z ≡ mate y) where
     in_queue : y < length T.queue.nodes
-    in_queue = omega (arith, A.queue_long, R.head_in_births, B.births_long)
+    in_queue = rw ey (omega (arith, A.queue_long, B.head_low))
 
     head_y : head g i ≡ y
-    head_y = sym R.is_head
+    head_y = sym ey
 
     mate_z : mate (head g i) ≡ z
-    mate_z = ap mate head_y ∙ sym R.mate_of
+    mate_z = ap mate head_y ∙ sym ez
+
+    pub head_within : NodeWithin T.labels y
+    head_within =
+        let low = B.head_low in
+        rw ey (record { in_births = omega (arith, B.births_long); in_vias = omega (arith, B.vias_long); in_bases = omega (arith, B.bases_long) })
 
     -- the head's mate is new
-    module _ (nz : get_or T.labels.births z 0 ≡ 0) where
+    module _ (nz : is_reached T.labels z ≡ false) where
       mate_new : (state_of T).reached (mate (head g i)) ≡ false
-      mate_new = rw mate_z (not_reached (get_or T.labels.births z 0) nz)
+      mate_new = rw mate_z nz
 
-      pub looked_old : get_or T.labels.births y 0 ≢ 0 → ArcLooked g T i T
-      looked_old ry = unchanged (inl (rw head_y (is_reached (get_or T.labels.births y 0) ry))) (λ t. true_false t mate_new)
+      pub looked_old : is_reached T.labels y ≡ true → ArcLooked g T i T
+      looked_old ry = unchanged (inl (rw head_y ry)) (λ t. true_false t mate_new)
 
-      module _ (ny : get_or T.labels.births y 0 ≡ 0) where
-        y_new : (state_of T).reached y ≡ false
-        y_new = not_reached (get_or T.labels.births y 0) ny
-
+      module _ (ny : is_reached T.labels y ≡ false) where
         new_head : NewHead g T.labels T.clock i
-        new_head = record { leaving = A.leaving; head_new = rw head_y y_new; mate_new = mate_new }
+        new_head = record { leaving = A.leaving; head_new = rw head_y ny; mate_new = mate_new }
 
         pub new_room : T.queue.count < length T.queue.nodes
-        new_room = queue_room A.queued y_new in_queue
+        new_room = queue_room A.queued ny in_queue
 
         stepped : TreeStepped g T.labels T.clock i (head_reached T.labels T.clock i y)
         stepped = subst (λ (w : ℕ). TreeStepped g T.labels T.clock i (head_reached T.labels T.clock i w)) head_y (tree_stepped new_head)
@@ -190,14 +171,14 @@ module _ {g : Graph} {T : Tables} {i : ℕ} (A : Looking g T i) where
               touched = inl stepped.step.reached_head;
               settled = λ t. true_false t mate_new;
               enqueued =
-                  enqueued_add (enqueued_none A.queued) y_new in_queue (rw head_y at stepped.step.reached_head)
+                  enqueued_add (enqueued_none A.queued) ny in_queue (rw head_y at stepped.step.reached_head)
                   (λ u ne. stepped.step.reached_other u (λ e. ne (e ∙ head_y)));
             })
 
     -- the head's mate is reached
-    module _ (rz : get_or T.labels.births z 0 ≢ 0) where
+    module _ (rz : is_reached T.labels z ≡ true) where
       joining : Joining g T.labels T.clock i
-      joining = record { leaving = A.leaving; mate_reached = rw mate_z (is_reached (get_or T.labels.births z 0) rz) }
+      joining = record { leaving = A.leaving; mate_reached = rw mate_z rz }
 
       pub looked_settled : is_settled g T.labels i ≡ true → ArcLooked g T i T
       looked_settled e =

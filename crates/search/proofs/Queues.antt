@@ -1,5 +1,6 @@
 -- The queue of reached nodes.
 --   queued_none, queued_same, queued_add    no node is queued; the same set, by another test; one node more
+--   pushed_is                               the queue after a push
 --   queue_room                              a node that is not in the queue has a place in it
 --   enqueued_none, _same, _add              a queue grown by no node, with the same set, by one node more
 --   kept_short                              a shorter front is kept too
@@ -17,11 +18,13 @@ use lib.ListN.{length, get_or, take, set, length-set, length-append}
 use lib.Seq.{length-take-le, take-take, take-set-le, take-suc-set}
 use borrow.Author.Tests.{eq-eqb, ne_eqb, ltb-true, ltb-false, lt-ltb, le-ltb}
 use Rattle.counting.specs.Lists.{In, Distinct}
+use Rattle.counting.specs.SliceVecs.{Extended}
+use Rattle.counting.specs.declared.slice_vec.SliceVec.{SliceVec}
 use Rattle.counting.proofs.Booleans.{by_test, true_false, same_or}
 use Rattle.counting.proofs.Membership.{in_left, in_right, in_append}
 use Rattle.counting.proofs.NoRepeats.{distinct_append}
 use Rattle.counting.proofs.Range.{pigeonhole}
-use Rattle.search.specs.Tables.{Queue}
+use Rattle.search.specs.Tables.{Queue, queue}
 use Rattle.search.specs.Queue.{Queued, queued_below, pushed, Enqueued}
 
 module _ {R R' : ℕ → Bool} (same : (u : ℕ) → R' u ≡ R u) where
@@ -36,7 +39,7 @@ module _ {R R' : ℕ → Bool} (same : (u : ℕ) → R' u ≡ R u) where
       }
 
   pub enqueued_same : {q q' : Queue} → Enqueued R q q' → Enqueued R' q q'
-  enqueued_same E = record { queued = queued_same E.queued; long = E.long; more = E.more; kept = E.kept }
+  enqueued_same E = record { queued = queued_same E.queued; long = E.long; more = E.more; kept = E.kept; taken_same = E.taken_same }
 
 pub queued_none : (q : Queue) → q.count ≡ 0 → Queued (λ (u : ℕ). false) q
 queued_none q e =
@@ -49,7 +52,11 @@ queued_none q e =
     }
 
 pub enqueued_none : {R : ℕ → Bool} {q : Queue} → Queued R q → Enqueued R q q
-enqueued_none Q = record { queued = Q; long = refl; more = omega arith; kept = refl }
+enqueued_none Q = record { queued = Q; long = refl; more = omega arith; kept = refl; taken_same = refl }
+
+pub pushed_is : {v w : SliceVec ℕ} {x taken : ℕ} → Extended v (x ∷ []) w →
+    queue w.slice.now w.len taken ≡ pushed (queue v.slice.now v.len taken) x
+pushed_is E = rw (E.slice_is, E.len_is)
 
 -- A NODE MORE
 module _ {R : ℕ → Bool} {q : Queue} (Q : Queued R q) {w : ℕ} (out : R w ≡ false) (low : w < length q.nodes) where
@@ -97,6 +104,7 @@ enqueued_add {q = q} {q'} {w} E out low here same =
       long = length-set q'.nodes q'.count w ∙ E.long;
       more = omega (arith, E.more);
       kept = take-set-le q.count q'.nodes q'.count w E.more ∙ E.kept;
+      taken_same = E.taken_same;
     }
 
 pub kept_short : (q q' : List ℕ) (m t : ℕ) → t ≤ m → take m q' ≡ take m q → take t q' ≡ take t q

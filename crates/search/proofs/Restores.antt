@@ -1,11 +1,10 @@
--- Restoration follows the path that the labels give: what its places ask, and what it has written.
+-- Restoration follows the path that the labels give: what its places ask, and what it has pushed.
 --   Split, split             a path by its last label: the path to the arc's tail, the arc, and the path within the bud
 --   split_first, _second     the two inner calls
 --   first_falls, second_falls    the birth number falls there
---   FirstWritten, first_written      the first inner call has written its part, behind which the arc is stored
---   arc_long                         that changes no length
---   SecondWritten, second_written    the second inner call has written its part, still to be turned
---   restored_stop, _arc, _bud        the path is written: it ends here; with the arc; with the arc and the bud's path behind it
+--   first_pushed, arc_room   the first inner call has pushed its part, behind which there is room for the arc
+--   SecondPushed, second_pushed    the second inner call has pushed its part, still to be turned
+--   restored_stop, _arc, _bud    the path is pushed: it ends here; with the arc; with the arc and the bud's path behind it
 use mathlib.Core.Path.{◌≡◌, refl, sym, ap, subst, ◌∙◌}
 use mathlib.Core.Logic.{◌≢◌, ⊎_elim}
 use mathlib.Core.Bool.{Bool}
@@ -14,14 +13,15 @@ use Prim.Native.Nat.{ℕ, zero, suc, ◌+◌, ◌*◌, ◌-◌, ◌≤◌, ◌<�
 use native.Mathlib.Omega.{arith}
 use lib.Dec.{ltb}
 use borrow.Rule.Slice.PartMut.{put_mid}
-use lib.ListN.{length, get_or, take, drop, set, length-set, length-append, get_or-eq_default}
-use lib.Seq.{sets, length-sets}
+use lib.ListN.{length, get_or, take, drop, length-append, get_or-eq_default}
 use borrow.Author.Tests.{ltb-true, ltb-false}
 use Rattle.formats.specs.Limits.{arcs_most}
 use Rattle.counting.specs.Lists.{reverse_map}
+use Rattle.counting.specs.SliceVecs.{Extended}
+use Rattle.counting.specs.declared.slice_vec.SliceVec.{SliceVec}
 use Rattle.counting.proofs.Booleans.{by_test, true_false}
 use Rattle.counting.proofs.Reversal.{length_reverse}
-use Rattle.counting.proofs.Stores.{sets_append}
+use Rattle.counting.proofs.SliceVecs.{extended_then, extended_long}
 use Rattle.skew.specs.Graph.{Graph, mate}
 use Rattle.skew.specs.Paths.{tail, head, Joins}
 use Rattle.skew.specs.Segments.{Seg, done, step}
@@ -101,86 +101,67 @@ module _ {g : Graph} {L : Labels} {stop v at size : ℕ} where
         subst (λ (z : ℕ). Route g L z w K.inside) (sym em)
         (subst (λ (z : ℕ). Route g L (mate v) z K.inside) (sym (ew ∙ ap (λ (z : ℕ). mate z) ey)) K.to_head)
 
-    pub split_second : {y m w a size' : ℕ} → y ≡ head g (get_or L.vias v 0) → m ≡ mate v → w ≡ mate y → a ≡ at + length K.before → size' ≡ size →
-        Restorable g L m w (a + 1) size'
-    split_second ey em ew ea es =
-        record { labels = K.labels; path = K.inside; route = inside_route ey em ew; room = omega (arith, K.room) }
+-- WHAT THEY HAVE PUSHED
+module _ {g : Graph} {L : Labels} {stop v : ℕ} {path : SliceVec ℕ} (K : Split g L stop v path.len (length path.slice.now)) where
+  pub first_pushed : {x : ℕ} {w : SliceVec ℕ} → x ≡ tail g (get_or L.vias v 0) → Restored g L stop x path w → Extended path K.before w
+  first_pushed e R = R K.before (subst (λ (z : ℕ). Route g L stop z K.before) (sym e) K.to_tail)
 
--- WHAT THEY HAVE WRITTEN
-module _ {g : Graph} {L : Labels} {stop v at : ℕ} (out : List ℕ) (K : Split g L stop v at (length out)) where
-  pub record FirstWritten (a : ℕ) (out₁ : List ℕ) : Type 0 where
-    pub place : a ≡ at + length K.before
-    pub bytes : out₁ ≡ sets out at K.before
-    pub low : a < length out
-    pub long : length out₁ ≡ length out
+  pub arc_room : {w : SliceVec ℕ} → Extended path K.before w → w.len < length w.slice.now
+  arc_room F = omega (arith, F.len_is, extended_long F, K.room)
 
-  pub first_written : {x a : ℕ} {out₁ : List ℕ} → x ≡ tail g (get_or L.vias v 0) → Restored g L stop x at out out₁ a →
-      FirstWritten a out₁
-  first_written {a = a} {out₁} e R =
-      let w = R K.before (subst (λ (z : ℕ). Route g L stop z K.before) (sym e) K.to_tail) in
-      let l : length out₁ ≡ length out = ap length w.1 ∙ length-sets out at K.before in
-      record { place = w.0; bytes = w.1; low = omega (arith, K.room, w.0); long = l }
+  module _ {w : SliceVec ℕ} (F : Extended path (K.before ++ get_or L.vias v 0 ∷ []) w) where
+    arc_place : w.len ≡ path.len + length K.before + 1
+    arc_place = omega (arith, F.len_is, length-append K.before (get_or L.vias v 0 ∷ []))
 
-  module _ {a : ℕ} {out₁ : List ℕ} (F : FirstWritten a out₁) where
-    abbrev out_arc : List ℕ
-    out_arc = set out₁ a (get_or L.vias v 0)
+    pub restored_arc : {y : ℕ} → y ≡ head g (get_or L.vias v 0) → y ≡ v → Restored g L stop v path w
+    restored_arc ey q p r =
+        let z : K.inside ≡ [] = segment_stop (ap (λ (k : ℕ). mate k) (sym ey ∙ q)) K.to_head in
+        rw (K.whole p r ∙ ap (λ (l : List ℕ). K.before ++ get_or L.vias v 0 ∷ reverse_map mate l) z) F
 
-    pub arc_long : length out_arc ≡ length out
-    arc_long = length-set out₁ a (get_or L.vias v 0) ∙ F.long
+    pub split_second : {y m v' : ℕ} → y ≡ head g (get_or L.vias v 0) → m ≡ mate v → v' ≡ mate y → Restorable g L m v' w.len (length w.slice.now)
+    split_second ey em ew =
+        record { labels = K.labels; path = K.inside; route = inside_route K ey em ew; room = omega (arith, K.room, arc_place, extended_long F) }
 
-    arc_written : out_arc ≡ sets out at (K.before ++ get_or L.vias v 0 ∷ [])
-    arc_written = rw (F.bytes, F.place) (sets_append out at K.before (get_or L.vias v 0 ∷ []))
+    arcs_low : (u t : ℕ) (p : List ℕ) → Joins g u t p → (j : ℕ) → j < length p → get_or p j 0 < length g.arcs
+    arcs_low u t [] J j h = absurd (omega arith)
+    arcs_low u t (i ∷ is) J zero h = J.0
+    arcs_low u t (i ∷ is) J (suc j) h = arcs_low (head g i) t is J.2 j (omega arith)
 
-    pub record SecondWritten (b : ℕ) (out₂ : List ℕ) : Type 0 where
-      pub place : b ≡ a + 1 + length K.inside
-      pub bytes : out₂ ≡ sets out_arc (a + 1) K.inside
-      pub long : length out₂ ≡ length out
-      pub range : (a + 1 ≤ b) × (b ≤ length out₂)
-      pub part : take (b - (a + 1)) (drop (a + 1) out₂) ≡ K.inside
+    pub record SecondPushed (w' : SliceVec ℕ) : Type 0 where
+      pub pushed : Extended w K.inside w'
+      pub range : (w.len ≤ w'.len) × (w'.len ≤ length w'.slice.now)
+      pub part : take (w'.len - w.len) (drop w.len w'.slice.now) ≡ K.inside
       pub small : (k : ℕ) → k < length K.inside → get_or K.inside k 0 < arcs_most
 
-    arcs_low : (u w : ℕ) (p : List ℕ) → Joins g u w p → (j : ℕ) → j < length p → get_or p j 0 < length g.arcs
-    arcs_low u w [] J j h = absurd (omega arith)
-    arcs_low u w (i ∷ is) J zero h = J.0
-    arcs_low u w (i ∷ is) J (suc j) h = arcs_low (head g i) w is J.2 j (omega arith)
-
-    pub second_written : {y m w b : ℕ} {out₂ : List ℕ} → y ≡ head g (get_or L.vias v 0) → m ≡ mate v → w ≡ mate y →
-        Restored g L m w (a + 1) out_arc out₂ b → SecondWritten b out₂
-    second_written {b = b} {out₂} ey em ew R =
-        let r = R K.inside (inside_route K ey em ew) in
-        let l : length out₂ ≡ length out = ap length r.1 ∙ length-sets out_arc (a + 1) K.inside ∙ arc_long in
+    pub second_pushed : {y m v' : ℕ} {w' : SliceVec ℕ} → y ≡ head g (get_or L.vias v 0) → m ≡ mate v → v' ≡ mate y → Restored g L m v' w w' →
+        SecondPushed w'
+    second_pushed {w' = w'} ey em ew R =
+        let E = R K.inside (inside_route K ey em ew) in
         record {
-          place = r.0;
-          bytes = r.1;
-          long = l;
-          range = (omega (arith, r.0), omega (arith, r.0, K.room, F.place));
-          part = rw r.1 (stored_part out_arc K.inside (a + 1) (b - (a + 1)) (omega (arith, r.0)) (omega (arith, arc_long, F.place, K.room)));
+          pushed = E;
+          range = (omega (arith, E.len_is), omega (arith, E.len_is, extended_long E, extended_long F, K.room, arc_place));
+          part =
+              rw E.slice_is
+              (stored_part w.slice.now K.inside w.len (w'.len - w.len) (omega (arith, E.len_is)) (omega (arith, extended_long F, K.room, arc_place)));
           small = λ k h.
               let J = seg_joins K.labels.table.well_formed.symmetric K.to_head in
               let o = arcs_low (mate v) (mate (head g (get_or L.vias v 0))) K.inside J k h in omega (arith, K.labels.table.arcs_few);
         }
 
-    -- THE PATH
-    pub restored_arc : {y : ℕ} → y ≡ head g (get_or L.vias v 0) → y ≡ v → Restored g L stop v at out out_arc (a + 1)
-    restored_arc ey q p r =
-        let z : K.inside ≡ [] = segment_stop (ap (λ (k : ℕ). mate k) (sym ey ∙ q)) K.to_head in
-        let w : p ≡ K.before ++ get_or L.vias v 0 ∷ [] =
-        K.whole p r ∙ ap (λ (l : List ℕ). K.before ++ get_or L.vias v 0 ∷ reverse_map mate l) z in
-        (rw w (omega (arith, F.place, length-append K.before (get_or L.vias v 0 ∷ []))), arc_written ∙ ap (sets out at) (sym w))
+    pub restored_bud : {w' w'' : SliceVec ℕ} {part : List ℕ} → SecondPushed w' → part ≡ reverse_map mate (take (w'.len - w.len) (drop w.len w'.slice.now)) →
+        w''.slice.now ≡ put_mid w.len (w'.len - w.len) w'.slice.now part → w''.len ≡ w'.len → w''.slice.ghost_name ≡ w'.slice.ghost_name →
+        Restored g L stop v path w''
+    restored_bud {w'} {w''} {part} G M e l n p r =
+        let turned : Extended w (reverse_map mate K.inside) w'' =
+        record {
+          slice_is =
+              e ∙ rw (M, G.part, G.pushed.slice_is)
+              (part_sets w.slice.now K.inside w.len (w'.len - w.len) (omega (arith, G.pushed.len_is)) (omega (arith, extended_long F, K.room, arc_place))
+              (reverse_map mate K.inside) (length_reverse mate K.inside));
+          len_is = omega (arith, l, G.pushed.len_is, length_reverse mate K.inside);
+          same = n ∙ G.pushed.same;
+        } in
+        rw (K.whole p r ∙ sym (append_assoc K.before (get_or L.vias v 0 ∷ []) (reverse_map mate K.inside))) (extended_then F turned)
 
-    pub restored_bud : {b : ℕ} {out₂ part : List ℕ} → SecondWritten b out₂ → part ≡ reverse_map mate (take (b - (a + 1)) (drop (a + 1) out₂)) →
-        Restored g L stop v at out (put_mid (a + 1) (b - (a + 1)) out₂ part) b
-    restored_bud {b} {out₂} {part} G M p r =
-        let w = K.whole p r in
-        let t : put_mid (a + 1) (b - (a + 1)) out₂ part ≡ sets out_arc (a + 1) (reverse_map mate K.inside) =
-        rw (M, G.part, G.bytes)
-        (part_sets out_arc K.inside (a + 1) (b - (a + 1)) (omega (arith, G.place)) (omega (arith, arc_long, F.place, K.room)) (reverse_map mate K.inside)
-        (length_reverse mate K.inside)) in
-        let i : a + 1 ≡ at + length (K.before ++ get_or L.vias v 0 ∷ []) = omega (arith, F.place, length-append K.before (get_or L.vias v 0 ∷ [])) in (
-          rw w (omega (arith, F.place, G.place, length_whole K.before K.inside (get_or L.vias v 0))),
-          t ∙ rw (arc_written, i) (sets_append out at (K.before ++ get_or L.vias v 0 ∷ []) (reverse_map mate K.inside)) ∙
-              ap (sets out at) (append_assoc K.before (get_or L.vias v 0 ∷ []) (reverse_map mate K.inside) ∙ sym w),
-        )
-
-pub restored_stop : (g : Graph) (L : Labels) {stop v : ℕ} (at : ℕ) (out : List ℕ) → v ≡ stop → Restored g L stop v at out out at
-restored_stop g L at out q p r = let z = segment_stop q r in rw z (omega arith, refl)
+pub restored_stop : (g : Graph) (L : Labels) {stop v : ℕ} (path : SliceVec ℕ) → v ≡ stop → Restored g L stop v path path
+restored_stop g L path q p r = let z = segment_stop q r in rw z (record { slice_is = refl; len_is = omega arith; same = refl })

@@ -30,41 +30,48 @@ use Rattle.skew.proofs.Measure.{weigh_two}
 use Rattle.skew.proofs.Start.{start_keeps}
 use Rattle.skew.proofs.Scan.{scan_past, scan_look, scan_done, scan_switch, scan_start, scan_closed}
 use Rattle.arcs.specs.Table.{ArcTable}
-use Rattle.search.specs.Tables.{Labels, Tables}
+use Rattle.std.specs.Prelude.{Some}
+use Rattle.search.specs.Tables.{Labels, is_reached, Queue, Tables, tables}
 use Rattle.search.specs.State.{state_in, state_of, StateHeld}
-use Rattle.search.specs.Queue.{Looking, ArcLooked, taken_of, Searching, Scanned, Blank, StartStored, SearchEnded}
+use Rattle.search.specs.Queue.{Popped, Looking, ArcLooked, taken_of, Searching, Scanned, Blank, StartStored, SearchEnded}
 use Rattle.search.proofs.States.{not_reached}
 use Rattle.search.proofs.Queues.{queued_none, queued_add, kept_short}
 
 -- A NODE'S ARCS
-pub scan_begins : {g : Graph} {T : Tables} {taken : ℕ} → Searching g T taken → taken < T.queue.count →
-    Scanned g T taken (get_or T.queue.nodes taken 0) 0
-scan_begins {g} {T} {taken} S l =
-    record {
+pub scan_begins : {g : Graph} {T : Tables} {x : ℕ} {q : Queue} → Searching g T → Popped T.queue q (Some x) →
+    Scanned g (tables T.labels T.marks q T.clock) x 0
+scan_begins {g} {T} {x} S P =
+    rw P.2
+    (record {
       search = S.search;
       clear = S.clear;
       queue_long = S.queue_long;
-      queued = S.queued;
-      taken = l;
-      here = refl;
-      scanning = scan_switch g S.search.table.well_formed (state_of T) (taken_of T.queue taken) 0 (get_or T.queue.nodes taken 0) S.scanning;
-    }
+      queued = record { fits = S.queued.fits; once = S.queued.once; node = S.queued.node; sound = S.queued.sound; whole = S.queued.whole };
+      place = T.queue.taken;
+      last = refl;
+      taken = P.0;
+      here = sym P.1;
+      scanning = scan_switch g S.search.table.well_formed (state_of T) (taken_of T.queue T.queue.taken) 0 x S.scanning;
+    })
 
-module _ {g : Graph} {T : Tables} {taken x a : ℕ} (S : Scanned g T taken x a) where
-  -- the queue's table and the number of nodes in it
+module _ {g : Graph} {T : Tables} {x a : ℕ} (S : Scanned g T x a) where
+  -- the queue's table, the number of nodes in it, and the place of x
   abbrev vs : List ℕ
   vs = T.queue.nodes
 
   abbrev m : ℕ
   m = T.queue.count
 
-  in_queue : taken < length vs
+  abbrev t : ℕ
+  t = S.place
+
+  in_queue : t < length vs
   in_queue = omega (arith, S.queued.fits, S.taken)
 
   node_reached : (state_of T).reached x ≡ true
   node_reached =
-      let e : get_or (take m vs) taken 0 ≡ x = get_or-take m vs taken 0 S.taken ∙ S.here in
-      S.queued.sound x (rw e at (get_d_in (take m vs) 0 taken (omega (arith, length-take-le m vs S.queued.fits, S.taken))))
+      let e : get_or (take m vs) t 0 ≡ x = get_or-take m vs t 0 S.taken ∙ S.here in
+      S.queued.sound x (rw e at (get_d_in (take m vs) 0 t (omega (arith, length-take-le m vs S.queued.fits, S.taken))))
 
   pub scan_at : a < length g.arcs → tail g a ≡ x → Looking g T a
   scan_at h e =
@@ -75,72 +82,78 @@ module _ {g : Graph} {T : Tables} {taken x a : ℕ} (S : Scanned g T taken x a) 
         queued = S.queued;
       }
 
-  pub scan_looks : {T' : Tables} → ArcLooked g T a T' → Scanned g T' taken x (a + 1)
+  pub scan_looks : {T' : Tables} → ArcLooked g T a T' → Scanned g T' x (a + 1)
   scan_looks {T'} A =
       let E = A.enqueued in
       let vs' = T'.queue.nodes in
-      let short : take (taken + 1) vs' ≡ take (taken + 1) vs = kept_short vs vs' m (taken + 1) (omega (arith, S.taken)) E.kept in
-      let same : take taken vs' ≡ take taken vs = kept_short vs vs' m taken (omega (arith, S.taken)) E.kept in
+      let short : take (t + 1) vs' ≡ take (t + 1) vs = kept_short vs vs' m (t + 1) (omega (arith, S.taken)) E.kept in
+      let same : take t vs' ≡ take t vs = kept_short vs vs' m t (omega (arith, S.taken)) E.kept in
       record {
         search = record { table = S.search.table; state = A.state };
         clear = A.clear;
         queue_long = E.long ∙ S.queue_long;
         queued = E.queued;
+        place = t;
+        last = E.taken_same ∙ S.last;
         taken = omega (arith, S.taken, E.more);
         here =
-            sym (get_or-take (taken + 1) vs' taken 0 (omega arith)) ∙ ap (λ (l : List ℕ). get_or l taken 0) short ∙
-            get_or-take (taken + 1) vs taken 0 (omega arith) ∙
+            sym (get_or-take (t + 1) vs' t 0 (omega arith)) ∙ ap (λ (l : List ℕ). get_or l t 0) short ∙
+            get_or-take (t + 1) vs t 0 (omega arith) ∙
             S.here;
         scanning =
             subst (λ (l : List ℕ). Scanning g (state_of T') (λ (u : ℕ). among u l) x (a + 1)) (sym same)
-            (scan_look g S.search.table.well_formed (state_of T) (state_of T') A.state.invariant (taken_of T.queue taken) x a node_reached
+            (scan_look g S.search.table.well_formed (state_of T) (state_of T') A.state.invariant (taken_of T.queue t) x a node_reached
             S.scanning A.later.reached_still A.later.settled_still A.touched A.settled);
       }
 
-  pub scan_next : a < length g.arcs → tail g a ≢ x → Scanned g T taken x (a + 1)
+  pub scan_next : a < length g.arcs → tail g a ≢ x → Scanned g T x (a + 1)
   scan_next h ne =
       record {
         search = S.search;
         clear = S.clear;
         queue_long = S.queue_long;
         queued = S.queued;
+        place = t;
+        last = S.last;
         taken = S.taken;
         here = S.here;
         scanning =
-            scan_past g S.search.table.well_formed (state_of T) (taken_of T.queue taken) x a (a + 1)
+            scan_past g S.search.table.well_formed (state_of T) (taken_of T.queue t) x a (a + 1)
             (λ j l m e. let same : j ≡ a = omega arith in ne (rw same at e)) S.scanning;
       }
 
-  pub scan_ends : a ≡ length g.arcs → Searching g T (taken + 1)
+  pub scan_ends : a ≡ length g.arcs → Searching g T
   scan_ends e =
-      let f : take (taken + 1) vs ≡ take taken vs ++ get_or vs taken 0 ∷ [] = rw (add-one taken) (take-suc vs taken 0 in_queue) in
+      let f : take T.queue.taken vs ≡ take t vs ++ get_or vs t 0 ∷ [] =
+      ap (λ (n : ℕ). take n vs) S.last ∙ rw (add-one t) (take-suc vs t 0 in_queue) in
       record {
         search = S.search;
         clear = S.clear;
         queue_long = S.queue_long;
         queued = S.queued;
-        taken = omega (arith, S.taken);
+        taken = omega (arith, S.taken, S.last);
         scanning =
-            scan_done g S.search.table.well_formed (state_of T) (taken_of T.queue taken) (taken_of T.queue (taken + 1)) x 0
+            scan_done g S.search.table.well_formed (state_of T) (taken_of T.queue t) (taken_of T.queue T.queue.taken) x 0
             (λ u i.
-            ⊎_elim (λ j. inl (in_among u (take taken vs) j)) (⊎_elim (λ j. inr (j ∙ S.here)) (λ b. absurd b))
-            (in_append u (take taken vs) (get_or vs taken 0 ∷ []) (among_in u (take taken vs ++ get_or vs taken 0 ∷ []) (rw f at i))))
+            ⊎_elim (λ j. inl (in_among u (take t vs) j)) (⊎_elim (λ j. inr (j ∙ S.here)) (λ b. absurd b))
+            (in_append u (take t vs) (get_or vs t 0 ∷ []) (among_in u (take t vs ++ get_or vs t 0 ∷ []) (rw f at i))))
             (rw e at S.scanning);
       }
 
 -- THE END
-module _ {g : Graph} {T : Tables} {taken : ℕ} (S : Searching g T taken) {goal : ℕ} (e : goal ≡ mate g.source) where
-  pub ends_closed : get_or T.labels.births goal 0 ≡ 0 → taken ≡ T.queue.count → SearchEnded g T.labels false
-  ends_closed h c =
+module _ {g : Graph} {T : Tables} (S : Searching g T) {goal : ℕ} (e : goal ≡ mate g.source) where
+  pub ends_closed : is_reached T.labels goal ≡ false → T.queue.count ≤ T.queue.taken → SearchEnded g T.labels false
+  ends_closed h l =
+      let c : T.queue.taken ≡ T.queue.count = omega (arith, S.taken) in
       record {
         clock = T.clock;
         search = S.search;
         path = λ r. true_false r refl;
         closed = λ r. (
-          scan_closed g S.search.table.well_formed (state_of T) (taken_of T.queue taken) 0
-              (λ u l. in_among u (take taken T.queue.nodes) (rw c (S.queued.whole u l)))
+          scan_closed g S.search.table.well_formed (state_of T) (taken_of T.queue T.queue.taken) 0
+              (λ u l. in_among u (take T.queue.taken T.queue.nodes) (rw c (S.queued.whole u l)))
               S.scanning,
-          rw (← e) (not_reached (get_or T.labels.births goal 0) h),
+          rw (← e) h,
         );
       }
 
@@ -216,7 +229,7 @@ module _ {g : Graph} {T T' : Tables} (A : ArcTable g) (B : Blank g.pairs T) (S :
         clock_bound = omega (arith, weights_few first (2 * g.pairs), A.pairs_few);
       }
 
-  pub search_starts : Searching g T' 0
+  pub search_starts : Searching g T'
   search_starts =
       record {
         search = record { table = A; state = rw S.clock_is state };
@@ -226,6 +239,8 @@ module _ {g : Graph} {T T' : Tables} (A : ArcTable g) (B : Blank g.pairs T) (S :
             rw S.queue_is
             (queued_add (queued_none T.queue B.queue_empty) refl
             (omega (arith, B.queue_long, source_node)) reached_s (λ u ne. by_test (first.reached u) (λ t. absurd (ne (reached_only u t))) (λ t. t)));
-        taken = omega arith;
-        scanning = rw S.clock_is (scan_start g A.well_formed first (taken_of T'.queue 0) 0 (λ u t. absurd (among_in u [] t)));
+        taken = rw S.queue_is (omega (arith, B.none_taken));
+        scanning =
+            rw S.clock_is
+            (scan_start g A.well_formed first (taken_of T'.queue T'.queue.taken) 0 (λ u t. absurd (among_in u [] (rw (S.queue_is, B.none_taken) at t))));
       }

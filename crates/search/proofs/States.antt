@@ -1,18 +1,18 @@
 -- The tables as a state: what is read off them.
---   is_reached, not_reached            birth numbers and reached nodes
---   reached_is, unreached_is           the same, the other way round
+--   not_reached                        a node without a birth is not reached
+--   reached_is, unreached_is           the other way round, and where it is reached
 --   base_at, reached_is_node           a node's base; reached nodes are nodes
 --   cleared                            a table filled with one value is clear
 --   ArcBounds, arc_bounds              an arc's number and ends, and the tables' lengths
 --   tail_base, head_base               the bases of its ends
 --   arc_within                         where what is done with an arc reads
-use mathlib.Core.Path.{◌≡◌, refl}
+use mathlib.Core.Path.{◌≡◌}
 use mathlib.Core.Bool.{true, false}
-use Prim.Native.Nat.{ℕ, zero, suc, ◌*◌, ◌-◌, ◌/◌, ◌%◌, ◌≤◌, ◌<◌}
+use Prim.Native.Nat.{ℕ, ◌*◌, ◌-◌, ◌/◌, ◌%◌, ◌≤◌, ◌<◌}
 use native.Mathlib.Omega.{arith}
 use lib.Dec.{ltb}
 use lib.ListN.{length, get_or, get_or-eq_default, replicate, length-replicate, get_or-replicate}
-use borrow.Author.Tests.{ltb-true, lt-ltb, ltb-false, le-ltb}
+use borrow.Author.Tests.{ltb-true, ltb-false, le-ltb}
 use Rattle.formats.specs.Limits.{arcs_most, mate_pairs_most}
 use Rattle.counting.proofs.Booleans.{by_test, true_false}
 use Rattle.counting.proofs.Membership.{get_d_default}
@@ -22,10 +22,6 @@ use Rattle.arcs.proofs.Tables.{table_covers}
 use Rattle.search.specs.Tables.{Labels}
 use Rattle.search.specs.State.{state_in, StateHeld, SearchHeld, Clear}
 use Rattle.search.specs.Queue.{ArcWithin}
-
-pub is_reached : (birth : ℕ) → (birth ≡ 0 → ⊥) → ltb 0 birth ≡ true
-is_reached zero n = absurd (n refl)
-is_reached (suc b) n = lt-ltb 0 (suc b) (omega arith)
 
 pub not_reached : (birth : ℕ) → birth ≡ 0 → ltb 0 birth ≡ false
 not_reached b q = le-ltb 0 b (omega arith)

@@ -11,7 +11,7 @@ abbrev pub labels_of : lent_labels.Labels → Labels
 labels_of T = labels T.birth.now T.via.now T.base.now
 
 abbrev pub queue_of : lent_queue.Queue → Queue
-queue_of T = queue T.nodes.now T.count
+queue_of T = queue T.reached.slice.now T.reached.len T.taken
 
 abbrev pub tables_of : lent_state.State → Tables
 tables_of T = tables (labels_of T.labels) T.mark.now (queue_of T.queue) T.clock

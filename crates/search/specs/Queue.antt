@@ -2,18 +2,19 @@
 --   Queued R q                  the queue holds each node of which R holds, once
 --   queued_below births k v u    u was reached before the event k, or by it and is below v
 --   pushed q v                   the queue with v at its end
+--   Popped q q' r                the next node was taken, or none was left
 --   Enqueued R q q'             the queue grown, its first nodes as they were
 --   ArcWithin g L i             arc i and its ends' bases stand within the tables
 --   is_settled g L i             arc i lies within one bud, or is a base arc, or the mate of one
 --   Looking g T i               an arc that leaves a reached node is to be looked at
 --   ArcLooked g T i T'          the tables after that
 --   taken_of q t                 the nodes in the first t places of the queue
---   Searching g T t             a search between two nodes, t of them taken
---   Scanned g T t x a           a search at the node x in place t, its arcs below a looked at
+--   Searching g T               a search between two nodes
+--   Scanned g T x a             a search at the node x, which was taken last, its arcs below a looked at
 --   Blank n T                   tables for n mate pairs, before a search
 --   StartStored g T T'          what the start stores
 --   SearchEnded g L found            the end: the source's mate is reached, or no arc asks for a step
-use Rattle.std.specs.Prelude.{◌≡◌, Bool, true, false, ◌||◌, List, ℕ, ◌+◌, ◌*◌, ◌/◌, ◌≤◌, ◌<◌, ltb, eqb, length, get_or, take, set}
+use Rattle.std.specs.Prelude.{◌≡◌, Bool, true, false, ◌||◌, Option, Some, None, List, ℕ, ◌+◌, ◌*◌, ◌/◌, ◌≤◌, ◌<◌, ltb, eqb, length, get_or, take, set}
 use Rattle.formats.specs.Limits.{arcs_most}
 use Rattle.counting.specs.Tests.{pick, among}
 use Rattle.counting.specs.Lists.{In, Distinct}
@@ -37,13 +38,18 @@ abbrev pub queued_below : (births : List ℕ) (clock bound node : ℕ) → Bool
 queued_below births k v u = pick (eqb (get_or births u 0) k) (ltb u v) (ltb 0 (get_or births u 0))
 
 abbrev pub pushed : Queue → (node : ℕ) → Queue
-pushed q v = queue (set q.nodes q.count v) (q.count + 1)
+pushed q v = queue (set q.nodes q.count v) (q.count + 1) q.taken
+
+abbrev pub Popped : (q q' : Queue) → Option ℕ → Type 0
+Popped q q' (Some x) = (q.taken < q.count) × (x ≡ get_or q.nodes q.taken 0) × (q' ≡ queue q.nodes q.count (q.taken + 1))
+Popped q q' None = (q.count ≤ q.taken) × (q' ≡ q)
 
 pub record Enqueued (R : ℕ → Bool) (q q' : Queue) : Type 0 where
   pub queued : Queued R q'
   pub long : length q'.nodes ≡ length q.nodes
   pub more : q.count ≤ q'.count
   pub kept : take q.count q'.nodes ≡ take q.count q.nodes
+  pub taken_same : q'.taken ≡ q.taken
 
 -- ARCS LOOKED AT
 pub record ArcWithin (g : Graph) (L : Labels) (i : ℕ) : Type 0 where
@@ -78,22 +84,24 @@ pub record ArcLooked (g : Graph) (T : Tables) (i : ℕ) (T' : Tables) : Type 0 w
 abbrev pub taken_of : Queue → (count node : ℕ) → Bool
 taken_of q t u = among u (take t q.nodes)
 
-pub record Searching (g : Graph) (T : Tables) (t : ℕ) : Type 0 where
+pub record Searching (g : Graph) (T : Tables) : Type 0 where
   pub search : SearchHeld g T.labels T.clock
   pub clear : Clear false (2 * g.pairs) T.marks
   pub queue_long : length T.queue.nodes ≡ 2 * g.pairs
   pub queued : Queued (state_of T).reached T.queue
-  pub taken : t ≤ T.queue.count
-  pub scanning : Scanning g (state_of T) (taken_of T.queue t) 0 0
+  pub taken : T.queue.taken ≤ T.queue.count
+  pub scanning : Scanning g (state_of T) (taken_of T.queue T.queue.taken) 0 0
 
-pub record Scanned (g : Graph) (T : Tables) (t x a : ℕ) : Type 0 where
+pub record Scanned (g : Graph) (T : Tables) (x a : ℕ) : Type 0 where
   pub search : SearchHeld g T.labels T.clock
   pub clear : Clear false (2 * g.pairs) T.marks
   pub queue_long : length T.queue.nodes ≡ 2 * g.pairs
   pub queued : Queued (state_of T).reached T.queue
-  pub taken : t < T.queue.count
-  pub here : get_or T.queue.nodes t 0 ≡ x
-  pub scanning : Scanning g (state_of T) (taken_of T.queue t) x a
+  pub place : ℕ
+  pub last : T.queue.taken ≡ place + 1
+  pub taken : place < T.queue.count
+  pub here : get_or T.queue.nodes place 0 ≡ x
+  pub scanning : Scanning g (state_of T) (taken_of T.queue place) x a
 
 -- THE START AND THE END
 pub record Blank (n : ℕ) (T : Tables) : Type 0 where
@@ -103,6 +111,7 @@ pub record Blank (n : ℕ) (T : Tables) : Type 0 where
   pub bases_long : length T.labels.bases ≡ n
   pub queue_long : length T.queue.nodes ≡ 2 * n
   pub queue_empty : T.queue.count ≡ 0
+  pub none_taken : T.queue.taken ≡ 0
 
 pub record StartStored (g : Graph) (T T' : Tables) : Type 0 where
   pub bases : List ℕ

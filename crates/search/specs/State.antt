@@ -6,17 +6,17 @@
 --   Clear none size xs        a table of nothing but `none`
 --   absorbed_in marks         the bases marked for absorption
 --   vias_of vias              the labels' arcs
-use Rattle.std.specs.Prelude.{◌≡◌, Bool, List, ℕ, ◌+◌, ◌-◌, ◌/◌, ◌%◌, ◌≤◌, ◌<◌, ltb, length, get_or, false}
+use Rattle.std.specs.Prelude.{◌≡◌, Bool, List, ℕ, ◌+◌, ◌-◌, ◌/◌, ◌%◌, ◌≤◌, ◌<◌, length, get_or, false}
 use Rattle.skew.specs.Graph.{Graph, nodes}
 use Rattle.skew.specs.Search.{State, Invariant}
 use Rattle.skew.specs.Measure.{total}
 use Rattle.arcs.specs.Table.{ArcTable}
-use Rattle.search.specs.Tables.{Labels, Tables}
+use Rattle.search.specs.Tables.{Labels, is_reached, Tables}
 
 abbrev pub state_in : Labels → (clock : ℕ) → State
 state_in L k =
     record {
-      reached = λ (u : ℕ). ltb 0 (get_or L.births u 0);
+      reached = is_reached L;
       base = λ (u : ℕ). get_or L.bases (u / 2) (u - u % 2);
       via = λ (u : ℕ). get_or L.vias u 0;
       birth = λ (u : ℕ). get_or L.births u 0;

@@ -11,11 +11,12 @@
 --   labelled L v e                 the labels, with e for v where v is not reached
 --   Absorbs g L marks q e          the base q can be marked, its mate labelled e, and its base arc followed
 --   Absorbed g L marks q e .. r    that was done; r is the base of the fragment above
+--   MarksFit L marks b             there is a mark for each node, so that bases stand within the marks, and so does b, as its mate
 --   Ascended g L k i L' marks b    the bases to absorb stand in the marks, the new labels' arcs in L'; b absorbs them
 --   Later g st new                 what every step keeps
 --   born_before births k u          u was reached before the event k
 --   BudStepped g L k i L'          the bud step was taken
-use Rattle.std.specs.Prelude.{◌≡◌, ◌⊎◌, Bool, true, false, List, ℕ, ◌+◌, ◌/◌, ◌<◌, ltb, eqb, length, get_or, set}
+use Rattle.std.specs.Prelude.{◌≡◌, ◌⊎◌, Bool, true, false, List, ℕ, ◌+◌, ◌*◌, ◌/◌, ◌<◌, ltb, eqb, length, get_or, set}
 use Rattle.formats.specs.Limits.{arcs_most}
 use Rattle.counting.specs.Tests.{pick}
 use Rattle.skew.specs.Graph.{Graph, mate, nodes}
@@ -87,6 +88,14 @@ pub record Absorbed (g : Graph) (L : Labels) (marks : List Bool) (q e : ℕ) (L'
   pub marks_are : marks' ≡ set marks q true
   pub labels_are : L' ≡ labelled L (mate q) e
   pub parent : r ≡ get_or L.bases (tail g (get_or (labelled L (mate q) e).vias q 0) / 2) 0
+
+pub record MarksFit (L : Labels) (marks : List Bool) (b : ℕ) : Type 0 where
+  pub pairs : length L.births ≡ 2 * length L.bases
+  pub marks_long : length L.births ≡ length marks
+  pub base_marked : (j : ℕ) → j < length L.bases → get_or L.bases j 0 < length marks
+  pub small : b < 256
+  pub mate_small : mate b < 256
+  pub mate_in_births : mate b < length L.births
 
 pub record Ascended (g : Graph) (L : Labels) (k i : ℕ) (L' : Labels) (marks : List Bool) (b : ℕ) : Type 0 where
   pub births_same : L'.births ≡ L.births

@@ -17,21 +17,25 @@ use crate::state::State;
 use crate::steps::Labels;
 use arcs::graph::Graph;
 use arcs::node::mate_of;
-use formats::limits::MATE_PAIRS_MOST;
+use counting::slice_vec::SliceVec;
+use formats::limits::{MATE_PAIRS_MOST, NODES_MOST};
 
 fn tell_reached(labels: &Labels<'_>, reached: &mut [bool])
     requires { length reached.old ≤ length labels.now.birth.now }
     ensures { ReachedTold labels.now.birth.now reached.old reached.new }
 {
+    // kept: a node by its number, since is_reached is asked of a node; what iter_mut writes under zip no proof knows once the loop is over
     // invariant: the flags of the nodes before v are told
     for (v, r) in reached.iter_mut().enumerate() {
-        *r = 0 < labels.birth[v];
+        *r = labels.is_reached(v);
     }
 }
 
 // A path's arcs go to the front of `path`. Where there is none, the labels, which show it, are lent to `reason`.
 // The state's tables are small and live here: at fixed places they are reached with fewer instructions than lent ones.
 // So does the state: its labels alone are lent on, when the search has ended, and until then its clock, its count and its slices need no memory.
+// kept: how long the lent tables are is a clause, here and at what calls this; a type for them would be made at each call from the slices that are lent
+// kept: how many arcs a path has, as readers tell it (docs/DECISIONS.md, D84)
 fn explore<F: FnMut(&Labels<'_>)>(
     graph: &Graph<'_>,
     path: &mut [usize],
@@ -41,11 +45,11 @@ fn explore<F: FnMut(&Labels<'_>)>(
     requires path_len { 2 * graph.now.pairs ≤ length path.old }
     ensures { Explored F.FnMut reason.old reason.new (graph_of graph.now) result path.old path.new }
 {
-    let mut birth = [0usize; 256];
-    let mut via = [0usize; 256];
+    let mut birth = [0usize; NODES_MOST];
+    let mut via = [0usize; NODES_MOST];
     let mut base = [0usize; MATE_PAIRS_MOST];
-    let mut mark = [false; 256];
-    let mut places = [0usize; 256];
+    let mut mark = [false; NODES_MOST];
+    let mut places = [0usize; NODES_MOST];
     let nodes = 2 * graph.pairs;
     let labels = Labels {
         birth: &mut birth[..nodes],
@@ -53,8 +57,8 @@ fn explore<F: FnMut(&Labels<'_>)>(
         base: &mut base[..graph.pairs],
     };
     let queue = Queue {
-        nodes: &mut places[..nodes],
-        count: 0,
+        reached: SliceVec::new(&mut places[..nodes]),
+        taken: 0,
     };
     let mut state = State {
         labels,
@@ -66,7 +70,9 @@ fn explore<F: FnMut(&Labels<'_>)>(
     let labels = state.labels;
     if found {
         let goal = mate_of(graph.source);
-        return Some(restore(graph, &labels, graph.source, goal, path, 0));
+        let mut arcs = SliceVec::new(path);
+        restore(graph, &labels, graph.source, goal, &mut arcs);
+        return Some(arcs.len);
     }
     reason(&labels);
     None

@@ -12,6 +12,7 @@ ghost use Rattle.search.specs.Restore.{Restorable, Restored};
 use crate::steps::Labels;
 use arcs::graph::Graph;
 use arcs::node::mate_of;
+use counting::slice_vec::SliceVec;
 
 fn mate_reverse(part: &mut [usize])
     requires { (k : ℕ) → k < length part.old → get_or part.old k 0 < arcs_most }
@@ -24,34 +25,31 @@ fn mate_reverse(part: &mut [usize])
     part.reverse();
 }
 
-// Writes the path from stop to v, from place `at` on: to the tail of v's label, over the arc, and then, unless the arc's head is v, along the mates of
-// the path from v's mate to the head's mate. The place after it. No instruction reads the birth numbers: they are what falls from call to call.
+// Pushes the path from stop to v: the path to the tail of v's label, the arc, and then, unless the arc's head is v, the mates of the path from v's mate
+// to the head's mate. No instruction reads the birth numbers: they are what falls from call to call.
 pub fn restore(
     graph: &Graph<'_>,
     labels: &Labels<'_>,
     stop: usize,
     v: usize,
-    path: &mut [usize],
-    at: usize,
-) -> usize
-    requires { Restorable (graph_of graph.now) (labels_of labels.now) stop v at (length path.old) }
-    ensures { Restored (graph_of graph.now) (labels_of labels.now) stop v at path.old path.new result }
+    path: &mut SliceVec<'_, usize>,
+)
+    requires { Restorable (graph_of graph.now) (labels_of labels.now) stop v path.old.len (length path.old.slice.now) }
+    ensures { Restored (graph_of graph.now) (labels_of labels.now) stop v path.old path.new }
 {
     if v == stop {
-        return at;
+        return;
     }
     let e = labels.via[v];
-    let arc = graph.arcs[e];
-    let x = usize::from(arc.tail);
-    let y = usize::from(arc.head);
-    let a = restore(graph, labels, stop, x, path, at);
-    path[a] = e;
+    let (x, y) = graph.arcs[e].ends();
+    restore(graph, labels, stop, x, path);
+    path.push(e);
     if y == v {
-        return a + 1;
+        return;
     }
+    let from = path.len;
     let m = mate_of(v);
     let w = mate_of(y);
-    let b = restore(graph, labels, m, w, path, a + 1);
-    mate_reverse(&mut path[a + 1..b]);
-    b
+    restore(graph, labels, m, w, path);
+    mate_reverse(&mut path.slice[from..path.len]);
 }

@@ -9,7 +9,7 @@ ghost use Rattle.formats.specs.Limits.{mate_pairs_most};
 ghost use Rattle.arcs.specs.Lent.{graph_of};
 ghost use Rattle.search.specs.Lent.{labels_of, tables_of};
 ghost use Rattle.search.specs.Steps.{NodeWithin};
-ghost use Rattle.search.specs.Queue.{Looking, ArcLooked, Searching, Blank, StartStored, SearchEnded};
+ghost use Rattle.search.specs.Queue.{Looking, ArcLooked, Searching, Scanned, Blank, StartStored, SearchEnded};
 
 use crate::queue::Queue;
 use crate::steps::Labels;
@@ -17,6 +17,7 @@ use arcs::graph::Graph;
 use arcs::node::mate_of;
 
 // What a search knows of its nodes, the marks of a bud step, the nodes reached so far and the clock, which numbers the next event.
+// kept: the marks beside the labels: they are of one bud step and clear between two, and what is said of labels does not speak of them
 #[derive(Drop)]
 pub struct State<'a> {
     pub labels: Labels<'a>,
@@ -26,6 +27,7 @@ pub struct State<'a> {
 }
 
 // Each mate pair a fragment of its own.
+// kept beside the first loop of pairing's row_of: the other fills bytes with their places, and each is one line
 fn reset_bases(base: &mut [usize])
     requires { length base.old ≤ mate_pairs_most }
     ensures { EachIndex base.new (λ k. slice_index base.new k ≡ 2 * k) }
@@ -46,12 +48,12 @@ impl State<'_> {
     {
         let y = usize::from(graph.arcs[i].head);
         let m = mate_of(y);
-        if self.labels.birth[m] == 0 {
-            if self.labels.birth[y] != 0 {
+        if !self.labels.is_reached(m) {
+            if self.labels.is_reached(y) {
                 return;
             }
             self.labels.tree_step(y, self.clock, i);
-            self.queue.push(y);
+            self.queue.reached.push(y);
             self.clock += 1;
             return;
         }
@@ -63,14 +65,13 @@ impl State<'_> {
         self.clock += 1;
     }
 
-    // Looks at each arc of the next node in the queue.
+    // Looks at each arc of the node that was taken last.
     #[inline(always)]
-    fn scan(&mut self, graph: &Graph<'_>, taken: usize)
-        requires searching { Searching (graph_of graph.now) (tables_of self.old) taken }
-        requires taken_lt_count { taken < self.old.queue.count }
-        ensures { Searching (graph_of graph.now) (tables_of self.new) (taken + 1) }
+    fn scan(&mut self, graph: &Graph<'_>, x: usize)
+        requires { Scanned (graph_of graph.now) (tables_of self.old) x 0 }
+        ensures searching { Searching (graph_of graph.now) (tables_of self.new) }
+        ensures taken { self.new.queue.taken ≡ self.old.queue.taken }
     {
-        let x = self.queue.nodes[taken];
         // invariant: specs/Queue Scanned
         for (i, arc) in graph.arcs.iter().enumerate() {
             if usize::from(arc.tail) == x {
@@ -81,14 +82,15 @@ impl State<'_> {
 
     // The source alone is reached, and stands in the queue.
     fn start(&mut self, graph: &Graph<'_>)
-        requires source_within { NodeWithin (labels_of self.old.labels) graph.now.source × (self.old.queue.count < length self.old.queue.nodes.now) }
+        requires source_within { NodeWithin (labels_of self.old.labels) graph.now.source × (self.old.queue.reached.len < length self.old.queue.reached.slice.now) }
         requires base_len_bound { length self.old.labels.base.now ≤ mate_pairs_most }
         ensures { StartStored (graph_of graph.now) (tables_of self.old) (tables_of self.new) }
     {
         reset_bases(self.labels.base);
         let source = graph.source;
+        // kept: the number of arcs as the source's via, for it has no arc: no arc has that number, and an option would be taken apart at each label followed
         self.labels.tree_step(source, 1, graph.arcs.len());
-        self.queue.push(source);
+        self.queue.reached.push(source);
         self.clock = 2;
     }
 
@@ -100,18 +102,14 @@ impl State<'_> {
     {
         self.start(graph);
         let goal = mate_of(graph.source);
-        let mut taken: usize = 0;
-        // kept: the queue grows while it is gone through
+        // kept: until the goal is reached or the queue is empty; nothing is counted
         // invariant: specs/Queue Searching; falls: nodes not taken
-        loop {
-            if self.labels.birth[goal] != 0 {
-                return true;
-            }
-            if taken == self.queue.count {
+        while !self.labels.is_reached(goal) {
+            let Some(x) = self.queue.pop() else {
                 return false;
-            }
-            self.scan(graph, taken);
-            taken += 1;
+            };
+            self.scan(graph, x);
         }
+        true
     }
 }

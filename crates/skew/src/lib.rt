@@ -1,6 +1,5 @@
 // Skew-symmetric graphs, regular paths and barriers (documents 000 and 001): the theory, and an arc as code keeps it.
 //   Arc                                  the node that an arc leaves, and the one that it leads to
-//   NO_ARC                               what stands in an array of arcs before anything is put into it
 //   specs/Graph, Promise                 the definitions of document 03, and what is promised of every well-formed graph
 //   proofs/Promise                       regular paths reach exactly the reachable nodes; a path, or the canonical barrier, and never both
 // Why no path means a barrier (document 000, theorem 2.2):
@@ -19,22 +18,35 @@
 // The steps may be taken in any order (proofs/Scan).
 #![tactic(auto)]
 
-use counting::{FromPair, Pair};
+ghost use Rattle.std.specs.Prelude.{◌≡◌, ◌<◌};
 
-#[derive(Clone, Copy, PartialEq, Eq)]
+use counting::Pair;
+
+#[derive(Clone, Copy, Default, PartialEq, Eq)]
 pub struct Arc {
     pub tail: u8,
     pub head: u8,
 }
 
-pub const NO_ARC: Arc = Arc { tail: 0, head: 0 };
+impl Arc {
+    // The tail and the head, as places in a table.
+    pub fn ends(self) -> (usize, usize)
+        ensures tail { result.0 ≡ self.tail }
+        ensures head { result.1 ≡ self.head }
+        ensures bytes { (result.0 < 256) × (result.1 < 256) }
+    {
+        (usize::from(self.tail), usize::from(self.head))
+    }
+}
 
-impl FromPair for Arc {
+// An arc as a file has it: its tail, then its head.
+impl From<Pair> for Arc {
+    ghost use Rattle.std.specs.Prelude.{◌≡◌};
     ghost use Rattle.skew.specs.Graph.{arc_of};
 
-    ghost of_pair = { arc_of };
+    ghost from_gives = { λ pair arc. arc ≡ arc_of pair };
 
-    fn from_pair(pair: Pair) -> Arc {
+    fn from(pair: Pair) -> Arc {
         Arc {
             tail: pair.first,
             head: pair.second,

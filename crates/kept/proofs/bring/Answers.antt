@@ -16,6 +16,9 @@ held c = stock_held c.in_ok-stock.ensures refl
 none : (c : In_ok-stock) → stock_fault c.args.file.now ≡ 0
 none c = sym c.in_ok-stock.ensures.says
 
+pub slice_bounds-fits-end : goal.slice_bounds-fits-end
+slice_bounds-fits-end c = (held (goal.at.slice_bounds-fits-end c).In_ok-stock).fits_room
+
 pub slice_bounds-put_stock-end : goal.slice_bounds-put_stock-end
 slice_bounds-put_stock-end c = sym (length-take-le _ _ (held (goal.at.slice_bounds-put_stock-end c).In_ok-stock).fits_room)
 

@@ -1,8 +1,9 @@
 -- `lanes_c::lanes_budget` meets its contract.
 use Rattle.std.proofs.Common.{◌≡◌, ap, arith, rules, ◌∙◌}
 use Rattle.lanes.specs.Entry.{searched_of}
+use Rattle.lanes.proofs.BudgetCalls.{as_answer}
 use Rattle.lanes_c.specs.Exported.{packed}
-use Rattle.lanes_c.proofs.Tallies.{called, as_answer}
+use Rattle.lanes_c.proofs.Tallies.{called}
 use Rattle.lanes_c.proofs.lanes_budget.Goals as goal
 
 pub returns : goal.returns

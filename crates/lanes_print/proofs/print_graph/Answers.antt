@@ -1,9 +1,6 @@
-use Rattle.std.proofs.Common.{refl, rules, arith}
-use Rattle.lanes.specs.Calls.{no_answer}
-use Rattle.lanes_print.proofs.Printing.{told_mapped, graph_prints}
+use Rattle.std.proofs.Common.{arith}
+use Rattle.lanes_print.proofs.Printing.{graph_prints}
 use Rattle.lanes_print.proofs.print_graph.Goals as goal
 
 pub returns : goal.returns
-returns c =
-    let told = told_mapped (λ x. x.size) no_answer refl c.answer_graph_by.result c.map-told.result (search rules) in
-    graph_prints c.args.file.now (omega arith) c.answer_graph_by.ensures.owes (rw told at c.show.ensures)
+returns c = graph_prints c.args.file.now (omega arith) c.answer_graph_by-answer.ensures.owes c.show.ensures

@@ -1,13 +1,9 @@
--- The invariant: part of the run is passed, and the slice is filled so far. The measure is what is left of the file.
-use Prim.Native.Nat.{◌-◌}
-use lib.ListN.{length}
+-- The invariant: part of the run is passed, and the slice is filled so far.
+use mathlib.Core.Path.{◌≡◌}
 use Rattle.frames.proofs.Stores.{Passing, Filling}
 use Rattle.frames.proofs.store.store_by.Given as goal
 
-abbrev pub invariant-loop-next : goal.invariant-loop-next
-invariant-loop-next g l =
-    Passing l.kind l.g l.at l.next l.count ×
-    Filling g.T.FromPair.of_pair l.kind l.g l.at l.next l.count l.initial.out l.out
-
-abbrev pub decreases-loop-next : goal.decreases-loop-next
-decreases-loop-next g l = length l.g - l.next
+abbrev pub invariant-loop-line : goal.invariant-loop-line
+invariant-loop-line g l =
+    (l.line-iterator.file.now ≡ l.g) × Passing l.kind l.g l.at l.line-iterator.at l.stored.len ×
+    Filling g.T.From.from_gives l.kind l.g l.at l.initial.stored l.line-iterator.at l.stored

@@ -3,5 +3,4 @@ use Rattle.kept.proofs.Entries.{passed_else}
 use Rattle.kept.proofs.slots.pass_slot.Goals as goal
 
 pub returns : goal.returns
-returns c =
-    passed_else c.args.name c.requires.to_le_i (rw c.slot_at.ensures at c.if-state-slot_at.false) c.move_slot.ensures
+returns c = passed_else c.args.name c.requires (rw c.at.ensures at c.if-state-at.false) c.move_slot.ensures

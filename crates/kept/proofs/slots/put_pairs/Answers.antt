@@ -5,6 +5,6 @@ use Rattle.kept.proofs.slots.put_pairs.Goals as goal
 
 pub returns : goal.returns
 returns c =
-    let r = c.requires in
-    let columns = rw (c.pairs_of.ensures.at, c.pairs_of.ensures.most) at c.put.ensures in
-    pairs_put (rw c.slot_at.ensures at c.put_text.ensures) columns (omega arith) r.to_lt_names_most r.pairs_len_bound
+    let a = c.args in
+    let columns = rw (c.pairs.ensures.at, c.pairs.ensures.most) at c.put.ensures in
+    pairs_put a.state.now a.to.number a.name a.pairs.now (rw c.at.ensures at c.put_bytes.ensures) columns (omega arith) (omega arith) c.requires

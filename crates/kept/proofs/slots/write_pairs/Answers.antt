@@ -5,6 +5,6 @@ use Rattle.kept.proofs.slots.write_pairs.Goals as goal
 
 pub returns : goal.returns
 returns c =
-    let columns = rw (c.pairs_of.ensures.at, c.pairs_of.ensures.most) at c.read-count.ensures in
-    let most = c.min-most.ensures ∙ (rw (c.from.ensures, c.slot_at.ensures)) in
-    pairs_written c.args.slot c.args.state.now most c.requires.room_in_bounds columns c.put_plan.ensures
+    let columns = rw (c.pairs.ensures.at, c.pairs.ensures.most) at c.read-count.ensures in
+    let most = c.min-most.ensures ∙ (rw (c.from.ensures, c.at.ensures)) in
+    pairs_written c.args.slot.number c.args.state.now most columns c.put_plan.ensures.text c.put_plan.ensures.size

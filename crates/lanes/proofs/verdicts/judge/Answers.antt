@@ -10,4 +10,4 @@ returns-then-begins_barrier c =
 
 pub returns-else-begins_barrier : goal.returns-else-begins_barrier
 returns-else-begins_barrier c =
-    c.judge_path.ensures c.args.graph.now.pairs ∙ path_verdict_lem (graph_of c.args.graph.now) c.args.cert.now (sym c.begins_barrier.ensures ∙ c.if-begins_barrier.false)
+    c.judge_path.ensures ∙ path_verdict_lem (graph_of c.args.graph.now) c.args.cert.now (sym c.begins_barrier.ensures ∙ c.if-begins_barrier.false)

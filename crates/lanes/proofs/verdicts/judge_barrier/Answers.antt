@@ -10,7 +10,7 @@ use Rattle.lanes.proofs.verdicts.judge_barrier.Goals as goal
 pub returns-in_err-count : goal.returns-in_err-count
 returns-in_err-count c =
     let g = graph_of c.args.graph.now in
-    refused _ _ (is_barrier g (barrier_classes c.args.cert.now)) c.from_residual.ensures.1 (barrier_says c.in_err-count.ensures g refl)
+    refused _ _ (is_barrier g (barrier_classes c.args.cert.now)) c.from_residual.ensures (barrier_says c.in_err-count.ensures g refl)
 
 pub returns : goal.returns
 returns c =

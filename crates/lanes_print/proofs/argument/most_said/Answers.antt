@@ -1,14 +1,24 @@
-use Rattle.std.proofs.Common.{sym, ◌∙◌, arith}
-use Rattle.lanes_print.proofs.Arguments.{reading_step, reading_none, reading_end}
+-- `lanes_print::argument::most_said` meets its contract: nothing, or another byte than a digit, or the digits one behind the other.
+use Rattle.std.proofs.Common.{rules, sym, ◌∙◌}
+use Rattle.std.proofs.lemmas.Iterator.{YieldsList-from_slice}
+use Rattle.std.proofs.lemmas.Iterator.Consumers.{fold_from_yields_List}
+use Rattle.files.proofs.PairScans.{all_of}
+use Rattle.lanes_print.specs.Argument.{is_decimal, with_digit}
+use Rattle.lanes_print.proofs.Arguments.{said_digits, said_other}
 use Rattle.lanes_print.proofs.argument.most_said.Goals as goal
+use Rattle.lanes_print.proofs.argument.most_said.Goals.{then-is_empty-via-then-is_empty, then-is_empty-via-else-is_empty+then-not-all}
 
-pub returns-then-not-is_ascii_digit : goal.returns-then-not-is_ascii_digit
-returns-then-not-is_ascii_digit c =
-    sym (reading_none c.loop-digit.invariant c.loop-digit-test.true (sym c.is_ascii_digit.ensures.value ∙ c.if-not-is_ascii_digit.true))
-
-pub loop-digit-preserved : goal.loop-digit-preserved
-loop-digit-preserved c =
-    reading_step c.loop-digit.invariant c.loop-digit-test.true (sym c.is_ascii_digit.ensures.value ∙ c.if-not-is_ascii_digit.false) c.with_digit-value.ensures
+pub returns-then-is_empty : goal.returns-then-is_empty
+returns-then-is_empty c =
+    elim c.then-is_empty.branch [
+      | then-is_empty-via-then-is_empty w ↦ rw (sym c.is_empty.ensures ∙ w.if-is_empty.true)
+      | then-is_empty-via-else-is_empty+then-not-all w ↦
+          said_other _ (sym c.is_empty.ensures ∙ w.if-is_empty.false)
+          (sym (all_of is_decimal (YieldsList-from_slice c.args.text.now cc) w.all.ensures.ran (λ x b q k. search rules)) ∙ w.if-not-all.true)
+    ]
 
 pub returns : goal.returns
-returns c = reading_end c.loop-digit.invariant (omega arith)
+returns c =
+    let digits = all_of is_decimal (YieldsList-from_slice c.args.text.now cc) c.all.ensures.ran (λ x b q k. search rules) in
+    fold_from_yields_List _ with_digit _ _ c.fold.ensures.ran (YieldsList-from_slice c.args.text.now cc) (λ a x b q k. search rules) ∙
+    said_digits _ (sym c.is_empty.ensures ∙ c.if-is_empty.false) (sym digits ∙ c.if-not-all.false)

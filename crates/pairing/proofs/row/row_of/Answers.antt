@@ -17,13 +17,13 @@ named c =
 pub loop-pair-init : goal.loop-pair-init
 loop-pair-init c = rw (c.into_iter-pair-iterator.ensures.into_iter_gives, c.rev-pair-items.ensures.source, c.iter.ensures.rest) (lit_start (λ k h. c.loop-k.invariant k (omega arith)))
 
-pub bounds-row-from : goal.bounds-row-from
-bounds-row-from c = omega (arith, c.from.ensures, named (goal.at.bounds-row-from c).In-Some)
+pub bounds-row-second : goal.bounds-row-second
+bounds-row-second c = omega (arith, c.numbers-first.ensures.second, named (goal.at.bounds-row-second c).In-Some)
 
-pub bounds-row-from-in-loop-pair : goal.bounds-row-from-in-loop-pair
-bounds-row-from-in-loop-pair c = rw length-set (omega (arith, c.from-in-loop-pair.ensures, named (goal.at.bounds-row-from-in-loop-pair c).In-Some))
+pub bounds-row-first : goal.bounds-row-first
+bounds-row-first c = rw length-set (omega (arith, c.numbers-first.ensures.first, named (goal.at.bounds-row-first c).In-Some))
 
 pub loop-pair-preserved : goal.loop-pair-preserved
 loop-pair-preserved c =
-    rw (c.from.ensures, c.from-in-loop-pair.ensures)
+    rw (c.numbers-first.ensures.first, c.numbers-first.ensures.second)
     (lit_next c.args.stock.now.is_table c.loop-pair.invariant (c.loop-k.auto.row ∙ c.requires) _ c.in-Some.pair.now c.in-Some.ensures.steps)

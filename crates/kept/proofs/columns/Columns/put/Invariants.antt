@@ -1,4 +1,4 @@
--- `kept::columns::Columns::put` meets its contract: the pairs below `i` stand in the columns.
+-- `kept::columns::Columns::put` meets its contract: with the pairs that are left, all of them stand in the columns.
 use Rattle.kept.proofs.PairColumns.{Putting}
 use Rattle.kept.proofs.columns.Columns.put.Given as goal
 

@@ -1,52 +1,42 @@
 -- The step that the arc asks for, case by case.
-use Prim.Native.Nat.{◌<◌}
-use mathlib.Core.Path.{sym, ◌∙◌}
-use lib.ListN.{length}
-use Rattle.arcs.specs.Lent.{graph_of}
-use Rattle.search.specs.Lent.{labels_of, tables_of}
-use Rattle.search.specs.Steps.{Bridging}
+use mathlib.Core.Path.{sym}
 use Rattle.search.proofs.States.{arc_within}
-use Rattle.search.proofs.Looks.{LookReads, look_reads, looked_old, new_room, looked_new, looked_settled, births_clear, bridging, bud_queue, looked_bud}
+use Rattle.search.proofs.Queues.{pushed_is}
+use Rattle.search.proofs.Looks.{head_within, looked_old, new_room, looked_new, looked_settled, births_clear, bridging, bud_queue, looked_bud}
 use Rattle.search.proofs.state.State.look.Goals as goal
-use Rattle.search.proofs.state.State.look.Goals.{After-mate_of-m, Else-self-y-ne0, Else-is_settled}
 
-reads : (c : After-mate_of-m) → let a = c.args in
-    LookReads (graph_of a.graph.now) (tables_of a.self.now) a.i c.from-y.result c.mate_of-m.result
-reads c = look_reads c.requires c.from-y.ensures c.mate_of-m.ensures
+-- the head's mate is new
+pub returns-then-is_reached : goal.returns-then-is_reached
+returns-then-is_reached c =
+    looked_old c.requires c.from-y.ensures c.mate_of-m.ensures (sym c.if-not-is_reached.ensures) (sym c.if-is_reached.ensures)
 
-room : (c : Else-self-y-ne0) → let a = c.args in a.self.now.queue.count < length a.self.now.queue.nodes.now
-room c =
-    new_room c.requires (look_reads c.requires c.from-y.ensures c.mate_of-m.ensures) c.if-self-m-eq0.true c.if-self-y-ne0.false
-
-bridge : (c : Else-is_settled) →
-    let a = c.args in Bridging (graph_of a.graph.now) (labels_of a.self.now.labels) a.self.now.clock a.i
-bridge c =
-    let A = c.requires in
-    bridging A (look_reads A c.from-y.ensures c.mate_of-m.ensures) c.if-self-m-eq0.false (sym c.is_settled.ensures ∙ c.if-is_settled.false)
-
--- CASES
-pub returns-then-self-y-ne0 : goal.returns-then-self-y-ne0
-returns-then-self-y-ne0 c =
-    looked_old c.requires (reads (goal.at.returns-then-self-y-ne0 c).After-mate_of-m) c.if-self-m-eq0.true c.if-self-y-ne0.true
+pub tree_step-requires : goal.tree_step-requires
+tree_step-requires c = head_within c.requires c.from-y.ensures c.mate_of-m.ensures
 
 pub push-requires : goal.push-requires
-push-requires c = room (goal.at.push-requires c).Else-self-y-ne0
+push-requires c =
+    new_room c.requires c.from-y.ensures c.mate_of-m.ensures (sym c.if-not-is_reached.ensures) (sym c.if-is_reached.ensures)
 
-pub returns-then-self-m-eq0 : goal.returns-then-self-m-eq0
-returns-then-self-m-eq0 c =
-    looked_new c.requires (reads (goal.at.returns-then-self-m-eq0 c).After-mate_of-m) c.if-self-m-eq0.true c.if-self-y-ne0.false c.tree_step.ensures
-    c.push.ensures
+pub returns-then-not-is_reached : goal.returns-then-not-is_reached
+returns-then-not-is_reached c =
+    looked_new c.requires c.from-y.ensures c.mate_of-m.ensures (sym c.if-not-is_reached.ensures) (sym c.if-is_reached.ensures)
+    c.tree_step.ensures (pushed_is c.push.ensures)
 
+-- the head's mate is reached
 pub is_settled-requires : goal.is_settled-requires
 is_settled-requires c = let A = c.requires.leaving in arc_within A.held A.is_arc
 
 pub returns-then-is_settled : goal.returns-then-is_settled
 returns-then-is_settled c =
-    looked_settled c.requires (reads (goal.at.returns-then-is_settled c).After-mate_of-m) c.if-self-m-eq0.false
-    (sym c.is_settled.ensures ∙ c.if-is_settled.true)
+    looked_settled c.requires c.from-y.ensures c.mate_of-m.ensures (sym c.if-not-is_reached.ensures) (sym c.if-is_settled.ensures)
 
 pub bud_step-requires : goal.bud_step-requires
-bud_step-requires c = record { bridging = bridge (goal.at.bud_step-requires c).Else-is_settled; clear = births_clear c.requires }
+bud_step-requires c =
+    record {
+      bridging =
+          bridging c.requires c.from-y.ensures c.mate_of-m.ensures (sym c.if-not-is_reached.ensures) (sym c.if-is_settled.ensures);
+      clear = births_clear c.requires;
+    }
 
 pub enqueue-requires : goal.enqueue-requires
 enqueue-requires c =

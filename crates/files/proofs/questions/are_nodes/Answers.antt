@@ -1,8 +1,0 @@
-use Rattle.std.proofs.Common.{rules}
-use Rattle.std.proofs.lemmas.Iterator.{YieldsList-from_slice}
-use Rattle.files.specs.GraphFile.{ends_named}
-use Rattle.files.proofs.PairScans.{all_of}
-use Rattle.files.proofs.questions.are_nodes.Goals as goal
-
-pub returns : goal.returns
-returns c = all_of (ends_named c.args.bound) (YieldsList-from_slice c.args.arcs.now cc) c.all.ensures.ran (λ x b q k. search rules)
