@@ -2,6 +2,7 @@
 --   extended_then                   by one list and then another: by both
 --   extended_long                   the slice is as long as before
 --   extended_taken                  what the list is then
+--   extended_lent                   what who lent the slice finds in it then
 --   extending_start, extending_next, extending_end      part by part: nothing yet; one part more; all
 --   extending_room                  what is left fits where the whole does
 --   part_put                        the slice after a part of it was copied to
@@ -12,7 +13,8 @@ use native.Mathlib.Omega.{arith}
 use borrow.Rule.Slice.PartMut.{put_mid}
 use lib.ListN.{length, take, length-append}
 use lib.Seq.{sets, length-sets, sets-eq, drop-drop}
-use Rattle.counting.specs.SliceVecs.{Extended, Extending}
+use Rattle.std.specs.Borrow.{MutBor}
+use Rattle.counting.specs.SliceVecs.{Begun, Extended, Extending}
 use Rattle.counting.specs.declared.slice_vec.SliceVec.{SliceVec}
 use Rattle.counting.proofs.Stores.{sets_append, take_sets}
 
@@ -32,6 +34,10 @@ module _ {A : Type 0} {u v : SliceVec A} {xs : List A} (x : Extended u xs v) whe
 pub extended_taken : {A : Type 0} {v w : SliceVec A} {xs : List A} → v.len ≡ 0 → length xs ≤ length v.slice.now → Extended v xs w →
     take w.len w.slice.now ≡ xs
 extended_taken {v = v} {w} {xs} z h x = let n : w.len ≡ length xs = omega (arith, x.len_is, z) in rw (n, x.slice_is, z) (take_sets v.slice.now xs h)
+
+pub extended_lent : {A : Type 0} {slice : MutBor (List A)} {v w : SliceVec A} {xs after : List A} → Begun slice v → Extended v xs w →
+    (slice.ghost_name ≡ w.slice.ghost_name → after ≡ w.slice.now) → after ≡ sets slice.now 0 xs
+extended_lent b x same = same (sym (x.same ∙ b.same)) ∙ x.slice_is ∙ rw (b.slice_is, b.empty)
 
 -- PART BY PART
 pub extending_start : {A : Type 0} (v : SliceVec A) (xs : List A) → Extending v xs v xs

@@ -6,7 +6,7 @@
 --   plan_size, budget_size, sheet_size                 how many bytes a plan, a budget's answer and a standing sheet take
 --   header_then                                        a header and what stands behind it are a text
 --   first_size, first_written                          how long a text at the front of the slice is; and so what stands in it, as document 03 has it
-use mathlib.Core.Path.{◌≡◌, refl, sym, ap, ◌∙◌}
+use mathlib.Core.Path.{◌≡◌, refl, ap, ◌∙◌}
 use mathlib.Core.List.{List, [], ◌∷◌, ◌++◌, append_assoc}
 use Prim.Native.Nat.{ℕ, suc, ◌+◌, ◌*◌, ◌-◌, ◌≤◌, ◌<◌}
 use native.Mathlib.Omega.{arith}
@@ -18,9 +18,9 @@ use Rattle.counting.specs.SliceVecs.{Begun, Extended, Extending}
 use Rattle.counting.specs.declared.Pair.{Pair}
 use Rattle.counting.specs.declared.slice_vec.SliceVec.{SliceVec}
 use Rattle.counting.proofs.Loops.{next_in}
-use Rattle.counting.proofs.SliceVecs.{extended_long, extended_then, extending_next, extending_end}
+use Rattle.counting.proofs.SliceVecs.{extended_long, extended_lent, extended_then, extending_next, extending_end}
 use Rattle.frames.specs.Frames.{frame6, frame_of4}
-use Rattle.frames.proofs.Writes.{text_whole, hex_bytes_length}
+use Rattle.frames.proofs.Writes.{sets_over, hex_bytes_length}
 use Rattle.files.specs.StockFile.{mark_lines, sheet_with, plan_lines, plan_text, budget_text}
 use Rattle.files.specs.CertificateFile.{path_lines, class_lines}
 use Rattle.files.specs.Answers.{each_line, WrittenFirst}
@@ -94,4 +94,4 @@ pub first_written : {slice : MutBor (List ℕ)} {v w : SliceVec ℕ} {text after
     (slice.ghost_name ≡ w.slice.ghost_name → after ≡ w.slice.now) → WrittenFirst text slice.now after w.len
 first_written {slice} {v} {w} {text} b x same =
     let long : length text ≤ length slice.now = omega (arith, w.fits, extended_long x, ap length b.slice_is, first_size b x) in
-    record { bytes = same (sym (x.same ∙ b.same)) ∙ (text_whole b x long).0; told = first_size b x }
+    record { bytes = extended_lent b x same ∙ sets_over text slice.now long; told = first_size b x }

@@ -14,7 +14,7 @@ use Rattle.counting.specs.SliceVecs.{Begun, Extending}
 use Rattle.counting.specs.declared.Pair.{Pair}
 use Rattle.counting.specs.declared.slice_vec.SliceVec.{SliceVec}
 use Rattle.counting.proofs.Loops.{next_in}
-use Rattle.counting.proofs.SliceVecs.{extended_long, extending_end, extending_room}
+use Rattle.counting.proofs.SliceVecs.{extended_long, extended_lent, extending_end, extending_room}
 use Rattle.counting.proofs.Stores.{take_sets}
 use Rattle.frames.specs.Questions.{Question, first_no}
 use Rattle.frames.specs.Stores.{StoredFirst}
@@ -53,7 +53,7 @@ module _ {A : Type 0} {slice : MutBor (List A)} {v w : SliceVec A} (b : Begun sl
       let n : w.len ≡ length xs = omega (arith, b.empty, x.len_is) in (
         record {
           room = omega (arith, w.fits, extended_long x, ap length b.slice_is);
-          entries_are = same (sym (x.same ∙ b.same)) ∙ x.slice_is ∙ rw (b.slice_is, b.empty);
+          entries_are = extended_lent b x same;
         },
         n,
       )

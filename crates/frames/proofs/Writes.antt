@@ -1,6 +1,5 @@
 -- Bytes written one behind the other into a lent slice.
 --   sets_over                           a run of stores at the front: what is stored, then what stood behind it (document 03's `over`)
---   text_whole                          so what stands in the slice once a text was written into it from its front on, and how much that is
 --   hex_bytes_length                    digits: how many
 --   two_value, four_value               what is read of a number that was written in two digits, and in four
 --   frame4_length                       how many bytes a frame with one number takes
@@ -10,7 +9,7 @@
 --   FieldsWritten v kind fields i w     a frame written number by number: the kind and so many fields are
 --   kind_written, field_written, frame_written    the kind is; one field more is; all are, and the line feed
 --   frame_room                          there is room for the numbers left
-use mathlib.Core.Path.{◌≡◌, refl, ap, ◌∙◌}
+use mathlib.Core.Path.{◌≡◌, refl, ap}
 use mathlib.Core.List.{List, [], ◌∷◌, ◌++◌, append_assoc}
 use Prim.Native.Nat.{ℕ, zero, suc, ◌+◌, ◌*◌, ◌-◌, ◌/◌, ◌%◌, ◌≤◌, ◌<◌}
 use native.Mathlib.Omega.{arith}
@@ -21,8 +20,7 @@ use lib.ListN.{length, get_or, drop, length-append, length-drop, drop_of_length-
 use lib.Seq.{sets, sets-eq, drop-cons}
 use borrow.Author.Tests.{ltb-true, ltb-false, le-leb, lt-leb}
 use Rattle.counting.proofs.Booleans.{by_test}
-use Rattle.std.specs.Borrow.{MutBor}
-use Rattle.counting.specs.SliceVecs.{Begun, Extended, Extending}
+use Rattle.counting.specs.SliceVecs.{Extended, Extending}
 use Rattle.counting.specs.declared.slice_vec.SliceVec.{SliceVec}
 use Rattle.counting.proofs.SliceVecs.{extended_long, extending_start, extending_next, extending_end, extending_room}
 use Rattle.frames.specs.Frames.{digit_of, hex_from, digit_byte, hex_bytes, frame_bytes, frame4, frame_of4}
@@ -30,11 +28,6 @@ use Rattle.frames.specs.Frames.{digit_of, hex_from, digit_byte, hex_bytes, frame
 -- ONE RUN BEHIND ANOTHER
 pub sets_over : (xs l : List ℕ) → length xs ≤ length l → sets l 0 xs ≡ xs ++ drop (length xs) l
 sets_over xs l h = let e = sets-eq xs l 0 (omega arith) in rw zero-add at e
-
-pub text_whole : {slice : MutBor (List ℕ)} {v w : SliceVec ℕ} {text : List ℕ} → Begun slice v → Extended v text w → length text ≤ length slice.now →
-    (w.slice.now ≡ text ++ drop (length text) slice.now) × (w.len ≡ length text)
-text_whole {slice} {text = text} b x h =
-    (x.slice_is ∙ rw (b.slice_is, b.empty) (sets_over text slice.now h), omega (arith, x.len_is, b.empty))
 
 -- HOW MANY BYTES
 pub hex_bytes_length : (n v : ℕ) → length (hex_bytes n v) ≡ n

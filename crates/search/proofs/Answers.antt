@@ -21,6 +21,7 @@ use Rattle.std.specs.Fn.{Mut, CalledAt}
 use Rattle.formats.specs.Limits.{mate_pairs_most}
 use Rattle.counting.specs.Tests.{up_from}
 use Rattle.counting.specs.SliceVecs.{Begun}
+use Rattle.counting.proofs.SliceVecs.{extended_lent}
 use Rattle.counting.specs.declared.slice_vec.SliceVec.{SliceVec}
 use Rattle.counting.proofs.Booleans.{and_left}
 use Rattle.counting.proofs.Range.{pigeonhole}
@@ -98,7 +99,7 @@ module _ {g : Graph} {L : Labels} {found : Bool} (E : SearchEnded g L found) whe
             wanted = wanted.2;
             count = omega (arith, x.len_is, B.empty);
             few = omega (arith, short, x.len_is, B.empty);
-            written = same (sym (x.same ∙ B.same)) ∙ rw (B.slice_is, B.empty) at x.slice_is;
+            written = extended_lent B x same;
           }
 
 -- THE TABLE OF THE REACHED NODES
