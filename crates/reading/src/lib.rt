@@ -3,7 +3,8 @@
 //   answer       a file read from one end, answered, and the answer written to the other
 #![tactic(auto)]
 
-ghost use Rattle.std.specs.Prelude.{◌≤◌, length};
+ghost use Rattle.std.specs.Prelude.{◌≤◌, length, take, OnOk};
+ghost use Rattle.std.specs.Io.KnownBytes.{Consumes, Appends};
 ghost use Rattle.formats.specs.Limits.{room};
 ghost use Rattle.io.specs.Counts.{IsPrefixLen};
 
@@ -11,9 +12,10 @@ use formats::limits::{FILE_MOST, ROOM};
 use std::io;
 use std::io::{Read, Write};
 
-// A read that fails ends the input too. It answers how many bytes it put at the front of the buffer.
+// A read that fails ends the input too. It answers how many bytes it put at the front of the buffer, which are those that the reader lost.
 pub fn read_full<R: Read>(reader: &mut R, buffer: &mut [u8]) -> usize
-    ensures { IsPrefixLen result buffer.new }
+    ensures counts { IsPrefixLen result buffer.new }
+    ensures bytes { Consumes (R.remaining reader.old) (R.remaining reader.new) (take result buffer.new) }
 {
     let mut done = 0;
     // kept: a place that jumps by as many bytes as a read gives, and a read may fail; no method of Read fills a slice as far as there is input
@@ -27,7 +29,7 @@ pub fn read_full<R: Read>(reader: &mut R, buffer: &mut [u8]) -> usize
 }
 
 // What is written is what the function puts at the front of a buffer with room for every answer. One byte more is read than a file may have, so that
-// a longer file is refused.
+// a longer file is refused. Where it succeeds, the function was asked for just the bytes that the reader lost, and the writer has just what it put there more.
 pub fn answer<R: Read, W: Write, F: FnOnce(&[u8], &mut [u8]) -> usize>(
     reader: &mut R,
     writer: &mut W,
@@ -35,6 +37,7 @@ pub fn answer<R: Read, W: Write, F: FnOnce(&[u8], &mut [u8]) -> usize>(
 ) -> io::Result<()>
     requires callable { (file : _) (out : _) → room ≤ length out.now → F.pre print file out }
     requires counts { (file : _) (out : _) (size : _) (after : _) → room ≤ length out.now → F.post print file out size after → IsPrefixLen size after.now }
+    ensures { OnOk result ((file : _) × (out : _) × (size : _) × (after : _) × Consumes (R.remaining reader.old) (R.remaining reader.new) file.now × F.post print file out size after × Appends (W.contents writer.old) (W.contents writer.new) (take size after.now)) }
 {
     let mut file = [0u8; FILE_MOST + 1];
     let size = read_full(reader, &mut file);
