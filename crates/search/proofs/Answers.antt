@@ -53,7 +53,7 @@ wanted_short g wf p e =
           (nodes_within g (nodes g) g.source (end_of g g.source p) p wf.head_node wf.source_node P.joins),
     )
 
-module _ {g : Graph} {L : Labels} {found : Bool} (E : SearchEnded g L found) where
+module _ {g : Graph} {L : Labels} {marks : List Bool} {found : Bool} (E : SearchEnded g L marks found) where
   abbrev st : State
   st = state_in L E.clock
 

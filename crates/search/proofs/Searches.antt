@@ -142,11 +142,12 @@ module _ {g : Graph} {T : Tables} {x a : ℕ} (S : Scanned g T x a) where
 
 -- THE END
 module _ {g : Graph} {T : Tables} (S : Searching g T) {goal : ℕ} (e : goal ≡ mate g.source) where
-  pub ends_closed : is_reached T.labels goal ≡ false → T.queue.count ≤ T.queue.taken → SearchEnded g T.labels false
+  pub ends_closed : is_reached T.labels goal ≡ false → T.queue.count ≤ T.queue.taken → SearchEnded g T.labels T.marks false
   ends_closed h l =
       let c : T.queue.taken ≡ T.queue.count = omega (arith, S.taken) in
       record {
         clock = T.clock;
+        clear = S.clear;
         search = S.search;
         path = λ r. true_false r refl;
         closed = λ r. (

@@ -13,7 +13,7 @@
 --   Scanned g T x a             a search at the node x, which was taken last, its arcs below a looked at
 --   Blank n T                   tables for n mate pairs, before a search
 --   StartStored g T T'          what the start stores
---   SearchEnded g L found            the end: the source's mate is reached, or no arc asks for a step
+--   SearchEnded g L marks found      the end: the source's mate is reached, or no arc asks for a step; the marks are clear
 use Rattle.std.specs.Prelude.{◌≡◌, Bool, true, false, ◌||◌, Option, Some, None, List, ℕ, ◌+◌, ◌*◌, ◌/◌, ◌≤◌, ◌<◌, ltb, eqb, length, get_or, take, set}
 use Rattle.formats.specs.Limits.{arcs_most}
 use Rattle.counting.specs.Tests.{pick, among}
@@ -124,8 +124,9 @@ pub record StartStored (g : Graph) (T T' : Tables) : Type 0 where
   pub queue_is : T'.queue ≡ pushed T.queue g.source
   pub clock_is : T'.clock ≡ 2
 
-pub record SearchEnded (g : Graph) (L : Labels) (found : Bool) : Type 0 where
+pub record SearchEnded (g : Graph) (L : Labels) (marks : List Bool) (found : Bool) : Type 0 where
   pub clock : ℕ
+  pub clear : Clear false (2 * g.pairs) marks
   pub search : SearchHeld g L clock
   pub path : found ≡ true → (state_in L clock).reached (mate g.source) ≡ true
   pub closed : found ≡ false → Closed g (state_in L clock) × ((state_in L clock).reached (mate g.source) ≡ false)

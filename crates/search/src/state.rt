@@ -98,7 +98,7 @@ impl State<'_> {
     #[inline(always)]
     pub fn search(&mut self, graph: &Graph<'_>) -> bool
         requires { Blank graph.now.pairs (tables_of self.old) }
-        ensures { SearchEnded (graph_of graph.now) (labels_of self.new.labels) result }
+        ensures { SearchEnded (graph_of graph.now) (labels_of self.new.labels) self.new.mark.now result }
     {
         self.start(graph);
         let goal = mate_of(graph.source);
