@@ -13,13 +13,17 @@
 //   Ending, PairsFound   how searches ended; how many pairs there are then, with that
 //   improve              one search
 //   run_searches         one after the other, up to so many, from the row of the lit pairs
-//   find_pairs           the pairs that so many searches come to, and the nodes that the last one reached
+//   list_pairs           the pairs of the row that they come to
 //   budget               those pairs, for a budget
 //   plan                 a plan and every camera's mark, with searches enough
 ghost use Rattle.std.specs.Prelude.{◌≡◌, ◌+◌, ◌*◌, ◌≤◌, length};
-ghost use Rattle.pairing.specs.Table.{PairedFits};
+ghost use Rattle.formats.specs.Limits.{cameras_most};
+ghost use Rattle.counting.specs.Tests.{below};
+ghost use Rattle.matching.specs.Matching.{pairs_in_order};
+ghost use Rattle.matching.specs.Row.{partner_in};
+ghost use Rattle.pairing.specs.Table.{PairedFits, Put};
 ghost use Rattle.pairing.specs.Lent.{stock_of};
-ghost use Rattle.pairing.specs.Plan.{Stepped, Ran, Found, BudgetListed, PlanMarked};
+ghost use Rattle.pairing.specs.Plan.{Stepped, Ran, BudgetListed, PlanMarked};
 
 use crate::marks::marks_of;
 use crate::row::{augment, pairs_of, row_of};
@@ -81,54 +85,51 @@ fn run_searches(most: usize, stock: &Stock<'_>, row: &mut [u8], reached: &mut [b
     ensures { Ran most (stock_of stock.now) row.new reached.new result }
 {
     row_of(row, stock);
-    // invariant: specs/Plan Improving
+    let mut searches = 0;
+    // invariant: specs/Plan Improving; as many searches are counted as gave a pair
     for found in 0..most {
+        searches = found + 1; // raised before the search
         if !improve(row, stock, reached) {
             return Ending {
-                searches: found + 1,
+                searches,
                 none: true,
             };
         }
     }
     Ending {
-        searches: most,
+        searches,
         none: false,
     }
 }
 
-// The pairs that so many searches come to at the front of `pairs`: how many, and how the searches ended. The last of them tells the reached nodes.
-fn find_pairs(
-    most: usize,
-    stock: &Stock<'_>,
-    pairs: &mut [Pair],
-    reached: &mut [bool],
-) -> PairsFound
-    requires pairs_in_bounds { stock.now.cameras ≤ length pairs.old }
-    requires reached_len { length reached.old ≡ 2 * (stock.now.cameras + 1) }
-    ensures { Found most (stock_of stock.now) pairs.old pairs.new reached.new result }
+// The pairs of a row in order at the front of `pairs`: how many.
+fn list_pairs(row: &[u8], pairs: &mut [Pair]) -> usize
+    requires row_len_bound { length row.now ≤ cameras_most }
+    requires row_in_bounds { length row.now ≤ length pairs.old }
+    ensures { Put pairs.old 0 pairs.new result (pairs_in_order (partner_in row.now) (below (length row.now))) }
 {
-    let mut row = [0; CAMERAS_MOST];
-    let row = &mut row[..stock.cameras];
-    let ending = run_searches(most, stock, row, reached);
-    let mut found = SliceVec::new(pairs);
-    pairs_of(&mut found, row);
-    PairsFound {
-        pairs: found.len,
-        ending,
-    }
+    let mut listed = SliceVec::new(pairs);
+    pairs_of(&mut listed, row);
+    listed.len
 }
 
-// Those pairs, for a budget.
+// The pairs that so many searches come to at the front of `pairs`: how many, and how the searches ended.
 pub fn budget(most: usize, stock: &Stock<'_>, pairs: &mut [Pair]) -> PairsFound
     requires { stock.now.cameras ≤ length pairs.old }
     ensures { BudgetListed most (stock_of stock.now) pairs.old pairs.new result }
 {
     let mut reached = [false; NODES_MOST];
-    find_pairs(most, stock, pairs, &mut reached[..2 * (stock.cameras + 1)])
+    let mut row = [0; CAMERAS_MOST];
+    let row = &mut row[..stock.cameras];
+    let ending = run_searches(most, stock, row, &mut reached[..2 * (stock.cameras + 1)]);
+    PairsFound {
+        pairs: list_pairs(row, pairs),
+        ending,
+    }
 }
 
-// The pairs of a plan at the front of `pairs`, how many, and every camera's mark.
-// kept beside budget: what they share is find_pairs; one tells how the searches ended, the other the marks
+// The pairs of a plan at the front of `pairs`, how many, and every camera's mark, which the nodes tell that the last search reached.
+// kept beside budget: one tells how the searches ended, the other the marks, which are read before the pairs are written
 pub fn plan(stock: &Stock<'_>, pairs: &mut [Pair], marks: &mut [u8]) -> usize
     requires marks_len { length marks.old ≡ stock.now.cameras }
     requires pairs_in_bounds { stock.now.cameras ≤ length pairs.old }
@@ -136,7 +137,9 @@ pub fn plan(stock: &Stock<'_>, pairs: &mut [Pair], marks: &mut [u8]) -> usize
 {
     let mut reached = [false; NODES_MOST];
     let reached = &mut reached[..2 * (stock.cameras + 1)];
-    let found = find_pairs(SEARCHES_MOST, stock, pairs, reached);
+    let mut row = [0; CAMERAS_MOST];
+    let row = &mut row[..stock.cameras];
+    run_searches(SEARCHES_MOST, stock, row, reached);
     marks_of(stock, reached, marks);
-    found.pairs
+    list_pairs(row, pairs)
 }
