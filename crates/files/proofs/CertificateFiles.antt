@@ -6,7 +6,7 @@
 --   path_says, path_held                            of what is answered: document 03's fault over a graph, and the arc numbers held
 --   barrier_shape, barrier_eight, barrier_refused, barrier_room, barrier_read, barrier_nine, barrier_says, barrier_held
 --                                                   the same of a barrier, whose classes are stored where nothing is refused
-use Rattle.std.proofs.Common.{◌≡◌, ◌≢◌, refl, ap, subst, sym, ◌∙◌, Bool, true, List, [], ◌∷◌, ◌++◌, ℕ, ◌≤◌, arith, length, take, eqb, ltb, leb}
+use Rattle.std.proofs.Common.{◌≡◌, refl, ap, subst, sym, ◌∙◌, Bool, true, List, [], ◌∷◌, ◌++◌, ℕ, ◌≤◌, arith, length, take, eqb, ltb, leb}
 use borrow.Author.Tests.{eqb-true, ltb-true, leb-true}
 use Rattle.std.specs.List.{list_all}
 use Rattle.formats.specs.Kinds.{class_kind, step_kind}
@@ -116,12 +116,12 @@ module _ {f xs ys : List ℕ} {bound n c : ℕ} (r : PathRead f xs ys bound n c)
 -- A BARRIER
 pub barrier_refused : {f : List ℕ} {xs : List Pair} {ys : List ℕ} {bound : ℕ} (e : Refusal) → refusal_number e ≡ first_no (barrier_sized bound f) →
     BarrierRead f xs ys xs ys bound (refusal_number e) 0
-barrier_refused {f} {xs} {bound = bound} e q =
+unfolding seconds_of
+barrier_refused {f} {xs} {ys} {bound} e q =
     record {
       answer = refused_early (barrier_sized bound f) (names_in_order 0 (pairs_in class_kind (body_lines f))) e q;
       stores = none_stored (λ (zs : List Pair). zs) (barrier_sized bound f) (pairs_in class_kind (body_lines f)) xs refl (λ z. refusal_some e (q ∙ z));
-      refused = λ z. refl;
-      accepted = λ z. absurd (refusal_some e z);
+      stores_classes = none_stored (λ (zs : List Pair). seconds_of zs) (barrier_sized bound f) (pairs_in class_kind (body_lines f)) ys refl (λ z. refusal_some e (q ∙ z));
     }
 
 pub barrier_shape : {f : List ℕ} {next count : ℕ} (bound : ℕ) (e : Refusal) → ShapeAnswer barrier_form f (refusal_number e) next count →
@@ -146,9 +146,8 @@ module _ {f : List ℕ} {next count : ℕ} (a : ShapeAnswer barrier_form f 0 nex
         (body_storable barrier_shaped (omega arith), omega (arith, n, same))
 
     module _ {xs zs : List Pair} {m turn : ℕ} (st : Stored (λ (x : Pair). x) class_kind f next xs zs m turn) {z : Bool} (asked : z ≡ names_in_order 0 (take count zs)) where
-      pub barrier_read : {ys ys' : List ℕ} {k : ℕ} → k ≡ unless z 9 → (k ≢ 0 → ys' ≡ ys) → (k ≡ 0 → StoredFirst (seconds_of (take count zs)) ys ys') →
-          BarrierRead f xs ys zs ys' bound k (answered k count)
-      barrier_read {ys} {ys'} q refused stored =
+      pub barrier_read : {ys ys' : List ℕ} {k : ℕ} → StoredFirst (seconds_of (take count zs)) ys ys' → k ≡ unless z 9 → BarrierRead f xs ys zs ys' bound k (answered k count)
+      barrier_read {ys} {ys'} classes q =
           let lines = pairs_in class_kind (body_lines f) in
           let none : first_no (barrier_sized bound f) ≡ 0 = barrier_fits ∙ sym fit in
           let here = (stored_pairs st lines (only_pairs barrier_shaped class_kind refl refl (λ y. omega arith))).1 in
@@ -156,12 +155,13 @@ module _ {f : List ℕ} {next count : ℕ} (a : ShapeAnswer barrier_form f 0 nex
           record {
             answer = read_through (barrier_sized bound f) (names_in_order 0 lines) refl none (rw (asked, back) at q) a.counts;
             stores = all_stored (λ (us : List Pair). us) (barrier_sized bound f) lines none here;
-            refused = refused;
-            accepted = λ y. subst (λ (us : List Pair). StoredFirst (seconds_of us) ys ys') back (stored y);
+            stores_classes =
+                all_stored (λ (us : List Pair). seconds_of us) (barrier_sized bound f) lines none (subst (λ (us : List Pair). StoredFirst (seconds_of us) ys ys') back classes);
           }
 
-      pub barrier_nine : {ys : List ℕ} (e : Refusal) → refusal_number e ≡ unless z 9 → BarrierRead f xs ys zs ys bound (refusal_number e) 0
-      barrier_nine {ys} e q = simp beside_refusal at (barrier_read {ys = ys} {ys' = ys} q (λ y. refl) (λ y. absurd (refusal_some e y)))
+      pub barrier_nine : {ys ys' : List ℕ} → StoredFirst (seconds_of (take count zs)) ys ys' → (e : Refusal) → refusal_number e ≡ unless z 9 →
+          BarrierRead f xs ys zs ys' bound (refusal_number e) 0
+      barrier_nine classes e q = simp beside_refusal at (barrier_read classes q)
 
 module _ {f : List ℕ} {xs zs : List Pair} {ys ys' : List ℕ} {bound n c : ℕ} (r : BarrierRead f xs ys zs ys' bound n c) where
   pub barrier_says : (g : Graph) → nodes g ≡ bound → n ≡ barrier_fault g f
@@ -175,5 +175,6 @@ module _ {f : List ℕ} {xs zs : List Pair} {ys ys' : List ℕ} {bound n c : ℕ
       let s : Shaped barrier_form f (line_after f 0) (length (body_lines f)) (length lines) =
       answer_shaped BARRIER (record { says = sym shape; second_line = refl; counts = refl }) refl in
       let k = r.answer.counts ∙ answered_none (length (body_lines f)) e ∙ sym (only_count s class_kind refl refl (λ q. omega arith)) in
-      let back = back_stored (k ∙ sym (seconds_length lines)) (r.accepted e) in
+      let stored = subst (λ (us : List ℕ). StoredFirst us ys ys') (stored_all (λ (us : List Pair). seconds_of us) (barrier_sized bound f) lines none) r.stores_classes in
+      let back = back_stored (k ∙ sym (seconds_length lines)) stored in
       record { room = back.0; classes_are = back.1 }

@@ -1,10 +1,11 @@
 -- What reading a certificate answers: the number of the first question answered no, or 0 and what the file holds, in slices that the caller lends.
 -- A path's questions ask how many arcs the graph has, a barrier's how many nodes. Beside a refusal the count is 0; the slices hold what was
--- stored before it, and nothing else in them differs; a barrier's classes are put beside its lines where 9 passes.
+-- stored before it, and nothing else in them differs.
 --   CertificateAnswer questions ..  the first no of the questions, and beside it how many body lines there are
 --   PathHeld, PathRead              arc numbers, each below the number of arcs
---   BarrierHeld, BarrierRead        a barrier's lines, and where nothing is refused their classes
-use Rattle.std.specs.Prelude.{◌≡◌, ◌≢◌, List, ℕ, ◌≤◌, ◌<◌, length, get_or, take}
+--   BarrierHeld, BarrierRead        a barrier's lines, and their classes
+use Rattle.std.specs.Prelude.{◌≡◌, List, ℕ, ◌≤◌, ◌<◌, length, get_or, take}
+use Rattle.counting.specs.Pairs.{seconds_of}
 use Rattle.counting.specs.declared.Pair.{Pair}
 use Rattle.frames.specs.Frames.{body_lines}
 use Rattle.frames.specs.Questions.{Question, first_no, answered}
@@ -31,5 +32,4 @@ pub record BarrierHeld (f classes : List ℕ) (count : ℕ) : Type 0 where
 pub record BarrierRead (f : List ℕ) (lines : List Pair) (classes : List ℕ) (lines_after : List Pair) (classes_after : List ℕ) (bound number count : ℕ) : Type 0 where
   pub answer : CertificateAnswer (barrier_questions bound f) f number count
   pub stores : StoredFirst (barrier_stored bound f) lines lines_after
-  pub refused : number ≢ 0 → classes_after ≡ classes
-  pub accepted : number ≡ 0 → StoredFirst (barrier_classes f) classes classes_after
+  pub stores_classes : StoredFirst (seconds_of (barrier_stored bound f)) classes classes_after

@@ -59,7 +59,7 @@ pub fn read_barrier(
     ask(barrier.count == bound, Refusal::Size)?;
     store(f, barrier.next, Kind::Class, lines);
     let named = &lines[..barrier.count];
-    ask(in_order(named), Refusal::Names)?;
     put_classes(named, classes);
+    ask(in_order(named), Refusal::Names)?;
     Ok(barrier.count)
 }
