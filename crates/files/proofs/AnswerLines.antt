@@ -3,6 +3,8 @@
 --   lines_next, lines_end                              one more line is written; all are
 --   class_lines_lem, mark_lines_lem                    document 03's lines are such lines: a barrier's and a sheet's,
 --   path_lines_lem, pair_lines_lem                     a path's, and those of a plan and of a budget's answer
+--   column_lines_lem                                   the same by first cameras, the second ones looked up
+--   plan_text_lem, budget_text_lem                     and so a plan's text and a budget's
 --   plan_size, budget_size, sheet_size                 how many bytes a plan, a budget's answer and a standing sheet take
 --   header_then                                        a header and what stands behind it are a text
 --   first_size, first_written                          how long a text at the front of the slice is; and so what stands in it, as document 03 has it
@@ -12,14 +14,17 @@ use Prim.Native.Nat.{ℕ, suc, ◌+◌, ◌*◌, ◌-◌, ◌≤◌, ◌<◌}
 use native.Mathlib.Omega.{arith}
 use native.Mathlib.Numerals.{add-one}
 use lib.ListN.{length, get_or, drop, length-append, drop_of_length-le}
+use lib.Seq.{drop-cons}
 use Rattle.std.specs.Borrow.{MutBor}
-use Rattle.formats.specs.Kinds.{class_kind, mark_kind, pair_kind, step_kind}
+use Rattle.formats.specs.Kinds.{budget_end, budget_kind, class_kind, mark_kind, pair_kind, plan_end, plan_kind, step_kind}
+use Rattle.counting.specs.Pairs.{zip_pairs}
 use Rattle.counting.specs.SliceVecs.{Begun, Extended, Extending}
 use Rattle.counting.specs.declared.Pair.{Pair}
 use Rattle.counting.specs.declared.slice_vec.SliceVec.{SliceVec}
 use Rattle.counting.proofs.Loops.{next_in}
+use Rattle.counting.proofs.Zips.{zip_length}
 use Rattle.counting.proofs.SliceVecs.{extended_long, extended_lent, extended_then, extending_next, extending_end}
-use Rattle.frames.specs.Frames.{frame6, frame_of4}
+use Rattle.frames.specs.Frames.{frame4, frame6, frame8, frame_of4}
 use Rattle.frames.proofs.Writes.{sets_over, hex_bytes_length}
 use Rattle.files.specs.StockFile.{mark_lines, sheet_with, plan_lines, plan_text, budget_text}
 use Rattle.files.specs.CertificateFile.{path_lines, class_lines}
@@ -60,6 +65,24 @@ pub pair_lines_lem : (n : ℕ) (ps : List Pair) → each_line (λ (i : ℕ) (x :
 unfolding each_line plan_lines
 pair_lines_lem n [] = refl
 pair_lines_lem n (x ∷ xs) = ap (λ (t : List ℕ). frame6 pair_kind x.first x.second ++ t) (pair_lines_lem (suc n) xs)
+
+pub column_lines_lem : (n : ℕ) (us vs : List ℕ) → n + length us ≡ length vs →
+    each_line (λ (i : ℕ) (x : ℕ). frame6 pair_kind x (get_or vs i 0)) n us ≡ plan_lines (zip_pairs us (drop n vs))
+unfolding each_line plan_lines zip_pairs
+column_lines_lem n [] vs h = refl
+column_lines_lem n (u ∷ us) vs h =
+    let e : drop n vs ≡ get_or vs n 0 ∷ drop (suc n) vs = drop-cons vs n 0 (omega arith) in
+    rw e (ap (λ (t : List ℕ). frame6 pair_kind u (get_or vs n 0) ++ t) (column_lines_lem (suc n) us vs (omega arith)))
+
+pub plan_text_lem : (us vs : List ℕ) → length vs ≡ length us →
+    frame4 plan_kind (length us) ++ each_line (λ (i : ℕ) (x : ℕ). frame6 pair_kind x (get_or vs i 0)) 0 us ++ frame_of4 plan_end (length us) ≡
+    plan_text (zip_pairs us vs)
+plan_text_lem us vs e = rw (column_lines_lem 0 us vs (omega arith), zip_length us vs e)
+
+pub budget_text_lem : (searches missing : ℕ) (us vs : List ℕ) → length vs ≡ length us →
+    frame8 budget_kind (length us) searches missing ++ each_line (λ (i : ℕ) (x : ℕ). frame6 pair_kind x (get_or vs i 0)) 0 us ++ frame_of4 budget_end (length us) ≡
+    budget_text searches missing (zip_pairs us vs)
+budget_text_lem k m us vs e = rw (column_lines_lem 0 us vs (omega arith), zip_length us vs e)
 
 -- SIZES
 plan_lines_length : (ps : List Pair) → length (plan_lines ps) ≡ 7 * length ps

@@ -15,7 +15,7 @@ use Rattle.counting.proofs.Loops.{next_in}
 use Rattle.counting.proofs.Membership.{each_all}
 use Rattle.matching.specs.Stock.{touches, meets, none_shared}
 use Rattle.matching.specs.Flags.{is_flagged, flag_pair}
-use Rattle.matching.proofs.Flags.{no_flag, flag_pair_lem}
+use Rattle.matching.proofs.Flags.{no_flag_new, flag_pair_lem}
 use Rattle.files.specs.Tables.{is_free}
 
 -- A PAIR FLAGGED
@@ -54,7 +54,7 @@ shares_none ts ps = all (is_free ts) ps && none_shared ps
 pub shared_start : (n : ℕ) (ps : List Pair) → none_shared ps ≡ shares_none (replicate n false) ps
 unfolding shares_none
 shared_start n ps =
-    let free : (x : Pair) → In x ps → is_free (replicate n false) x ≡ true = λ x m. rw (no_flag n x.first, no_flag n x.second) in
+    let free : (x : Pair) → In x ps → is_free (replicate n false) x ≡ true = λ x m. rw (no_flag_new n x.first, no_flag_new n x.second) in
     rw (each_all (is_free (replicate n false)) ps free)
 
 module _ (ps : List Pair) (ts : List Bool) (i : ℕ) where

@@ -43,7 +43,7 @@ use Rattle.frames.proofs.Runs.{frames_kind, pairs_other}
 
 -- A FRAME of a kind, with so many digits after it
 module _ (k n : ℕ) (l : List ℕ) (h : is_frame_of k n l ≡ true) where
-  frame_kind : kind_of l ≡ k
+  pub frame_kind : kind_of l ≡ k
   frame_kind = eqb-true _ _ (and_left (eqb (kind_of l) k) (eqb (length l) (2 + n)) h)
 
   pub frame_length : length l ≡ 2 + n
@@ -87,7 +87,7 @@ fit_runs k m n (l ∷ ls) h =
     rw (pairs_other k m (l ∷ ls) (frames_kind m n (l ∷ ls) g) d) (refl, g))
 
 -- THE ANSWER FROM A LINE ON
-abbrev told : (number count firsts : ℕ) → ℕ × ℕ × ℕ
+abbrev pub told : (number count firsts : ℕ) → ℕ × ℕ × ℕ
 told n c m = (n, answered n c, answered n m)
 
 module _ (y : Layout) where
@@ -98,14 +98,14 @@ module _ (y : Layout) where
   abbrev pub fits : Kind → List ℕ → Bool
   fits j l = is_frame_of (kind_number j) 4 l
 
-  abbrev kind_at : Kind → List ℕ → Kind
+  abbrev pub kind_at : Kind → List ℕ → Kind
   kind_at j l = pick (fits j l) j second
 
   abbrev pub firsts_past : Kind → (firsts : ℕ) → ℕ
   firsts_past j m = pick (eqb (kind_number j) (kind_number y.first)) (m + 1) m
 
   -- document 03's, of the lines left
-  abbrev body_from : Kind → (count firsts : ℕ) → List (List ℕ) → ℕ × ℕ × ℕ
+  abbrev pub body_from : Kind → (count firsts : ℕ) → List (List ℕ) → ℕ × ℕ × ℕ
   body_from j c m ls =
       let n = c + length (before_last ls) in
       told
@@ -136,14 +136,14 @@ module _ (y : Layout) where
       (λ t. rw (p, some, lt-ltb 0 (length ls) h, fit_cons j l bs, t, n, pairs_cons (kind_at j l) m l bs (frame_kind _ _ l t)))
       (λ t. rw (p, some, fit_cons j l bs, t, and-false (is_frame_of (kind_number y.end) 4 (last_of ls))))
 
-  abbrev whole_body : (g : List ℕ) → ℕ × ℕ × ℕ
+  abbrev pub whole_body : (g : List ℕ) → ℕ × ℕ × ℕ
   whole_body g = body_from y.first 0 0 (lines_of g)
 
   whole_is : (g : List ℕ) → whole_body g ≡
       told (body_fault (form_of y) (lines_of g)) (length (before_last (lines_of g))) (length (pairs_in (first_kind (form_of y)) (before_last (lines_of g))))
   whole_is g = rw (first_kind_lem y.first y.second, fit_bodies y.first y.second 4 (before_last (lines_of g)), zero-add, zero-add)
 
-  body_answer : {g : List ℕ} (number count firsts : ℕ) → whole_body g ≡ told number count firsts →
+  pub body_answer : {g : List ℕ} (number count firsts : ℕ) → whole_body g ≡ told number count firsts →
       BodyAnswer (form_of y) g number (answered number count) (answered number firsts)
   body_answer {g} number count firsts e =
       let w = sym e ∙ whole_is g in

@@ -2,14 +2,16 @@
 --   refused_first    a refusal stands, whatever else is asked
 --   call_refused     so does one by 17 or 1
 --   call_passes      where neither refuses, what else is asked decides
+--   call_roomy       and there is room
 --   call_is          a call's refusal is 17, 1 or that of the others: what holds of the three holds of it
 --   call_none        where a call is not refused, none of its questions refuses
 --   call_some        where one of the others refuses, the call is refused
 use mathlib.Core.Path.{◌≡◌, refl, sym, ◌∙◌}
 use mathlib.Core.Bool.{false}
-use Prim.Native.Nat.{ℕ}
+use Prim.Native.Nat.{ℕ, ◌≤◌}
 use native.Mathlib.Omega.{arith}
 use lib.Dec.{eqb, ltb, leb}
+use borrow.Author.Tests.{leb-true}
 use Rattle.std.specs.Prelude.{Ok, Err}
 use Rattle.formats.specs.Limits.{callers, room}
 use Rattle.formats.specs.Refusals.{refusal_number}
@@ -31,6 +33,11 @@ call_refused {c} {n} {e} A m = call_first c n m ∙ refused_first e A.is m
 
 pub call_passes : {c n : ℕ} {u : Unit} → CallAsked c n (Ok u) → (m : ℕ) → call_fault c n m ≡ m
 call_passes {c} {n} A m = call_first c n m ∙ or_go (call_fault c n 0) m (sym A.is)
+
+pub call_roomy : {c n : ℕ} {u : Unit} → CallAsked c n (Ok u) → room ≤ n
+call_roomy {c} {n} A =
+    by_test (leb room n) (λ t. leb-true room n t)
+    (λ t. by_test (ltb c callers) (λ s. let z : 0 ≡ 1 = rw (s, t) at A.is in absurd (cc)) (λ s. let z : 0 ≡ 17 = rw s at A.is in absurd (cc)))
 
 module _ (c n m : ℕ) where
   pub call_is : (P : ℕ → Type 0) → P 17 → P 1 → P m → P (call_fault c n m)

@@ -21,7 +21,7 @@ use Rattle.counting.proofs.SliceVecs.{extended_long, extended_taken}
 use Rattle.matching.specs.Stock.{Stock, touches, is_included}
 use Rattle.matching.specs.Flags.{is_flagged, flag_pair}
 use Rattle.matching.specs.DoubledTable.{marks_by}
-use Rattle.matching.proofs.Flags.{no_flag, flag_pair_lem}
+use Rattle.matching.proofs.Flags.{no_flag_new, flag_pair_lem}
 use Rattle.matching.proofs.Largest.{marks_length}
 use Rattle.pairing.specs.Table.{StockTable, FlagsSet, marks_read}
 use Rattle.pairing.proofs.DoubledTables.{fit_named}
@@ -31,7 +31,7 @@ module _ {s : Stock} (T : StockTable s) where
   pub flags_start : FlagsSet s (take s.cameras (replicate cameras_most false)) 0
   flags_start =
       let e : take s.cameras (replicate cameras_most false) ≡ replicate s.cameras false = take-replicate s.cameras cameras_most false T.cameras_few in
-      rw e (record { long = length-replicate {A = Bool} s.cameras false; tells = λ u. rw (no_flag s.cameras u) })
+      rw e (record { long = length-replicate {A = Bool} s.cameras false; tells = λ u. rw (no_flag_new s.cameras u) })
 
   pub flags_next : {flags : List Bool} {i : ℕ} → FlagsSet s flags i → i < length s.fits → FlagsSet s (flag_pair flags (get_or s.fits i no_pair)) (i + 1)
   unfolding any

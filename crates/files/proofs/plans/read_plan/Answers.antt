@@ -5,7 +5,7 @@ use Rattle.files.proofs.PlanFiles.{plan_refused, plan_shape_lem, plan_seven, pla
 use Rattle.files.proofs.plans.read_plan.Goals as goal
 
 pub returns-in_err-plan : goal.returns-in_err-plan
-returns-in_err-plan c = rw (passed_on c.from_residual.ensures) (plan_refused _ (plan_shape_lem _ c.in_err-plan.ensures))
+returns-in_err-plan c = rw (passed_on c.from_residual.ensures) (plan_shape_lem _ c.in_err-plan.ensures)
 
 pub number_at-requires-clause-inside : goal.number_at-requires-clause-inside
 number_at-requires-clause-inside c = plan_long c.in_ok-plan.ensures
