@@ -12,7 +12,7 @@
 --   Stores         runs of stores into a list
 --   Parts          parts of a list, also after stores into it
 --   Zips           two lists, pair by pair
---   Loops          a list gone through in a loop: what stands at a place
+--   Loops          a list gone through in a loop: what stands at a place; elements mapped in place
 --   SliceVecs      a list in a lent slice, extended by one list after another
 pub mod Booleans
 pub mod Membership

@@ -4,13 +4,18 @@
 --   reverse_twice               an involution, reversed twice, gives the list back
 --   distinct_reverse            an injective map makes no repeats
 --   length_reverse              as long as the list
+--   get_d_reverse               the element at an index, counted from the end
 use mathlib.Core.Path.{◌≡◌, refl, sym, ap, subst, ◌∙◌}
 use mathlib.Core.Logic.{◌⊎◌, inl, inr}
 use mathlib.Core.List.{List, [], ◌∷◌, ◌++◌, append_assoc, append-nil}
-use Prim.Native.Nat.{ℕ}
+use Prim.Native.Nat.{ℕ, suc, ◌-◌, ◌<◌}
 use native.Mathlib.Omega.{arith}
-use lib.ListN.{length, length-append}
+use lib.Dec.{ltb}
+use lib.ListN.{length, get_or, length-append, get_or-append}
+use lib.Seq.{get_or-append_seam}
+use borrow.Author.Tests.{ltb-true, ltb-false}
 use Rattle.counting.specs.Lists.{In, Apart, Distinct, reverse_map}
+use Rattle.counting.proofs.Booleans.{by_test}
 use Rattle.counting.proofs.Membership.{in_left, in_right, in_append}
 use Rattle.counting.proofs.NoRepeats.{distinct_append}
 
@@ -50,3 +55,16 @@ distinct_reverse f (x ∷ xs) inj d =
 pub length_reverse : (f : ℕ → ℕ) (xs : List ℕ) → length (reverse_map f xs) ≡ length xs
 length_reverse f [] = refl
 length_reverse f (x ∷ xs) = length-append (reverse_map f xs) (f x ∷ []) ∙ omega (arith, length_reverse f xs)
+
+pub get_d_reverse : (f : ℕ → ℕ) (xs : List ℕ) (j : ℕ) → j < length xs → get_or (reverse_map f xs) j 0 ≡ f (get_or xs (length xs - 1 - j) 0)
+get_d_reverse f [] j h = absurd (omega arith)
+get_d_reverse f (x ∷ xs) j h =
+    by_test (ltb j (length xs))
+    (λ t.
+    let l = ltb-true j (length xs) t in
+    let e : suc (length xs) - 1 - j ≡ suc (length xs - 1 - j) = omega arith in
+    rw e (get_or-append (reverse_map f xs) (f x ∷ []) 0 j (omega (arith, length_reverse f xs)) ∙ get_d_reverse f xs j l))
+    (λ t.
+    let e : suc (length xs) - 1 - j ≡ 0 = omega (arith, ltb-false j (length xs) t) in
+    let q : j ≡ length (reverse_map f xs) = omega (arith, length_reverse f xs, ltb-false j (length xs) t) in
+    rw (e, q) (get_or-append_seam (reverse_map f xs) (f x) [] 0))
