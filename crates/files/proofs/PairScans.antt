@@ -5,8 +5,11 @@
 --   mates_twos                  question 10, put to chunks of two
 --   rise_neighbours             questions 11 and 12, put to each pair, and to each two side by side
 --   order_places                question 9 of a barrier, put to each line with its place
---   look_found, look_none       what the look-up answers, at the first fit that is not smaller or where there is none
-use Rattle.std.proofs.Common.{◌≡◌, ◌⊎◌, inl, inr, refl, sym, ap, subst, ◌∙◌, Bool, true, false, not, Option, Some, None, List, [], ◌∷◌, ◌++◌, ℕ, suc, ◌+◌, ◌<◌, arith, length, get_or, ltb, leb, eqb, position, ◌&&◌, add-one, length-append, Bor}
+--   AllPassed fs x n            the first n fits are smaller than a pair that is looked up
+--   passed_next, end_by         one more of them; a fit at which the look-up ends, by its cameras
+--   ended_at, all_passed        what the look-up answers, at the first fit that is not smaller or where there is none
+--   look_found, look_none       the same, of the library's position
+use Rattle.std.proofs.Common.{◌≡◌, inl, inr, ⊎_elim, refl, sym, ap, subst, ◌∙◌, Bool, true, false, not, Option, Some, None, List, [], ◌∷◌, ◌++◌, ℕ, suc, ◌+◌, ◌≤◌, ◌<◌, arith, length, get_or, ltb, leb, eqb, position, ◌&&◌, add-one, length-append, Bor}
 use Rattle.std.specs.List.{position_or_len, enumerate_from}
 use Rattle.std.specs.Iterator.{AlwaysYields}
 use Rattle.std.specs.Slice.Iter.{chunks_exact_rest, chunks_exact_size, chunks_exact_steps, windows_rest, windows_size, windows_steps}
@@ -24,7 +27,7 @@ use Rattle.counting.proofs.Booleans.{list_all_is}
 use Rattle.std.proofs.lemmas.List.Sums.{fails_before_first}
 use Rattle.std.proofs.lemmas.List.Quantifiers.{position-Some}
 use mathlib.Core.Bool.{and-false, and-true}
-use borrow.Author.Tests.{not-true, ltb-false}
+use borrow.Author.Tests.{not-true, ltb-true, ltb-false}
 use Rattle.formats.specs.Limits.{class_most}
 use Rattle.counting.specs.Pairs.{no_pair}
 use Rattle.counting.specs.declared.Pair.{Pair}
@@ -35,7 +38,7 @@ use Rattle.skew.specs.declared.Arc.{Arc}
 use Rattle.matching.specs.Stock.{same_pair, pair_before, pairs_rise}
 use Rattle.files.specs.CertificateFile.{names_in_order}
 use Rattle.matching.specs.Pairs.{Before}
-use Rattle.matching.specs.LookUp.{is_found, looked, LookedUp}
+use Rattle.matching.specs.LookUp.{is_found, looked, LookedUp, EqualOrLarger}
 use Rattle.matching.proofs.Pairs.{same_is, is_same}
 use Rattle.matching.proofs.Rising.{before_is, not_before, before_not}
 use Rattle.matching.proofs.LookUp.{look_counts, found_last}
@@ -126,21 +129,24 @@ order_places i (x ∷ xs) = rw add-one (ap (λ (b : Bool). eqb x.first i && leb 
 
 -- A PAIR LOOKED UP
 module _ (fs : List Pair) (x : Pair) where
-  abbrev ends : Pair → Bool
-  ends y = not (pair_before y x)
+  abbrev pub AllPassed : (count : ℕ) → Type 0
+  AllPassed n = (k : ℕ) → k < n → Before (get_or fs k no_pair) x
 
-  passed : (y : Pair) → ends y ≡ false → Before y x
-  passed y e = by_test (pair_before y x) (λ t. before_is y x t) (λ t. let z : true ≡ false = rw t at e in absurd (cc))
+  pub passed_next : (i : ℕ) → AllPassed i → Before (get_or fs i no_pair) x → AllPassed (i + 1)
+  passed_next i a b k h =
+      by_test (ltb k i) (λ t. a k (ltb-true k i t))
+      (λ t. let l = ltb-false k i t in let e : i ≡ k = omega arith in subst (λ (j : ℕ). Before (get_or fs j no_pair) x) e b)
 
-  ended : (y : Pair) → ends y ≡ true → (y ≡ x) ⊎ Before x y
-  ended y e = not_before y x (not-true (pair_before y x) e)
+  pub end_by : (y : Pair) → x.first ≤ y.first → (x.first ≡ y.first → x.second ≤ y.second) → EqualOrLarger y x
+  end_by y l s =
+      not_before y x
+      (by_test (pair_before y x) (λ t. absurd (⊎_elim (λ b. omega arith) (λ b. let e = s (sym b.0) in omega (arith, b.1)) (before_is y x t))) (λ t. t))
 
-  pub look_found : (i : ℕ) {found : Bool} → position ends fs ≡ Some i → found ≡ same_pair (get_or fs i no_pair) x → LookedUp fs x found (i + 1)
-  look_found i e q =
-      let r = position-Some ends fs i no_pair e in
+  pub ended_at : (i : ℕ) {found : Bool} → i < length fs → AllPassed i → EqualOrLarger (get_or fs i no_pair) x → found ≡ same_pair (get_or fs i no_pair) x →
+      LookedUp fs x found (i + 1)
+  ended_at i h a e q =
       let y = get_or fs i no_pair in
-      let n : looked fs x ≡ suc i =
-      (look_counts fs x (suc i)).1 (inl (i, refl, record { below = r.0; here = ended y r.1; passed = λ j h. passed (get_or fs j no_pair) (r.2 j h) })) in
+      let n : looked fs x ≡ suc i = (look_counts fs x (suc i)).1 (inl (i, refl, record { below = h; here = e; passed = a })) in
       record {
         answer =
             q ∙
@@ -152,6 +158,33 @@ module _ (fs : List Pair) (x : Pair) where
         number = omega (arith, n);
       }
 
+  pub all_passed : AllPassed (length fs) → LookedUp fs x false (length fs)
+  all_passed a =
+      let n : looked fs x ≡ length fs =
+      (look_counts fs x (length fs)).1 (inr (refl, λ y m. let g = in_get_d y fs no_pair m in subst (λ (z : Pair). Before z x) g.2 (a g.0 g.1))) in
+      record {
+        answer =
+            by_test (is_found fs x)
+            (λ t.
+            let l = (found_last fs x).0 t in
+            let b : Before x x = subst (λ (z : Pair). Before z x) l.2 (a l.0 (omega (arith, l.1, n))) in
+            absurd (before_not x x b b))
+            (λ t. sym t);
+        number = sym n;
+      }
+
+  abbrev ends : Pair → Bool
+  ends y = not (pair_before y x)
+
+  passed : (y : Pair) → ends y ≡ false → Before y x
+  passed y e = by_test (pair_before y x) (λ t. before_is y x t) (λ t. let z : true ≡ false = rw t at e in absurd (cc))
+
+  pub look_found : (i : ℕ) {found : Bool} → position ends fs ≡ Some i → found ≡ same_pair (get_or fs i no_pair) x → LookedUp fs x found (i + 1)
+  look_found i e =
+      let r = position-Some ends fs i no_pair e in
+      let y = get_or fs i no_pair in
+      ended_at i r.0 (λ k h. passed (get_or fs k no_pair) (r.2 k h)) (not_before y x (not-true (pair_before y x) r.1))
+
   none_ends : position ends fs ≡ None → (k : ℕ) → k < length fs → ends (get_or fs k no_pair) ≡ false
   none_ends e k h =
       by_test (ltb (position_or_len ends fs) (length fs))
@@ -159,17 +192,4 @@ module _ (fs : List Pair) (x : Pair) where
       (λ t. let l = ltb-false _ _ t in fails_before_first ends fs k no_pair (omega arith))
 
   pub look_none : position ends fs ≡ None → LookedUp fs x false (length fs)
-  look_none e =
-      let all_pass = λ (k : ℕ) (h : k < length fs). passed (get_or fs k no_pair) (none_ends e k h) in
-      let n : looked fs x ≡ length fs =
-      (look_counts fs x (length fs)).1 (inr (refl, λ y m. let g = in_get_d y fs no_pair m in subst (λ (z : Pair). Before z x) g.2 (all_pass g.0 g.1))) in
-      record {
-        answer =
-            by_test (is_found fs x)
-            (λ t.
-            let l = (found_last fs x).0 t in
-            let b : Before x x = subst (λ (z : Pair). Before z x) l.2 (all_pass l.0 (omega (arith, l.1, n))) in
-            absurd (before_not x x b b))
-            (λ t. sym t);
-        number = sym n;
-      }
+  look_none e = all_passed (λ k h. passed (get_or fs k no_pair) (none_ends e k h))

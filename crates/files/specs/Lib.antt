@@ -1,5 +1,6 @@
 -- What files hold, what reading one answers, and how answers are written.
 --   Tables             what a reader stores, and flags of cameras
+--   LentFits           fits as a look-up takes them
 --   GraphFile          graph files: questions 5, 8 to 10 and 16, and the graph a file holds
 --   StockFile          stock files: questions 5 and 8 to 14, the stock a file holds; plans and standing sheets as they are written
 --   PlanFile           plan files handed in: questions 7, 9 and 12 to 14, and the pairs a file says
@@ -10,6 +11,7 @@
 --   Readers            what reading a file answers, and holds in lent slices
 --   CertificateReaders the same of a certificate
 pub mod Tables
+pub mod LentFits
 pub mod GraphFile
 pub mod StockFile
 pub mod PlanFile

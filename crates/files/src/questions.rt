@@ -16,11 +16,12 @@ ghost use Rattle.frames.specs.Questions.{first_no};
 ghost use Rattle.skew.specs.Graph.{are_mates, mates_fit, has_two_ends};
 ghost use Rattle.matching.specs.Stock.{none_shared, pairs_rise};
 ghost use Rattle.matching.specs.LookUp.{is_found};
+ghost use Rattle.files.specs.LentFits.{fits_of};
 ghost use Rattle.files.specs.GraphFile.{ends_named};
 ghost use Rattle.files.specs.StockFile.{lit_questions};
 ghost use Rattle.files.specs.CertificateFile.{names_in_order};
 
-use crate::look_up::look_up;
+use crate::look_up::LentFits;
 use arcs::node::mate_of;
 use counting::Pair;
 use formats::limits::CLASS_MOST;
@@ -73,10 +74,10 @@ pub fn pairs_rise(pairs: &[Pair]) -> bool
 }
 
 // 13: is each lit pair found among the fits? Where fits rise, that is whether it is one of them.
-pub fn are_fits(fits: &[Pair], lit: &[Pair]) -> bool
-    ensures { result ≡ list_all (is_found fits.now) lit.now }
+pub fn are_fits(fits: LentFits<'_>, lit: &[Pair]) -> bool
+    ensures { result ≡ list_all (is_found (fits_of fits.entry)) lit.now }
 {
-    lit.iter().all(|pair| look_up(fits, *pair).found)
+    lit.iter().all(|pair| fits.look_up(*pair).found)
 }
 
 // 14: is no camera in two pairs? A table has a flag for each camera of the pairs passed.
@@ -113,8 +114,8 @@ pub fn in_order(lines: &[Pair]) -> bool
 
 // 12 to 14, of pairs against fits.
 #[tactic(auto, using(counting::proofs::Booleans::list_all_is))]
-pub fn ask_lit(fits: &[Pair], lit: &[Pair]) -> Result<(), Refusal>
-    ensures { refusal_in result ≡ first_no (lit_questions fits.now lit.now) }
+pub fn ask_lit(fits: LentFits<'_>, lit: &[Pair]) -> Result<(), Refusal>
+    ensures { refusal_in result ≡ first_no (lit_questions (fits_of fits.entry) lit.now) }
 {
     ask(pairs_rise(lit), Refusal::PairsRise)?;
     ask(are_fits(fits, lit), Refusal::PairsFit)?;

@@ -9,6 +9,7 @@ ghost use Rattle.frames.specs.Questions.{first_no};
 ghost use Rattle.files.specs.StockFile.{pairs_questions};
 ghost use Rattle.files.specs.Readers.{no_stock, StockRead};
 
+use crate::look_up::LentFits;
 use crate::questions::{are_named, ask_lit, pairs_rise};
 use counting::Pair;
 use formats::kinds::Kind;
@@ -37,7 +38,7 @@ fn ask_pairs(cameras: usize, fits: &[Pair], lit: &[Pair]) -> Result<(), Refusal>
     ask(are_named(fits, cameras), Refusal::Names)?;
     ask(are_named(lit, cameras), Refusal::Names)?;
     ask(pairs_rise(fits), Refusal::FitsRise)?;
-    ask_lit(fits, lit)
+    ask_lit(LentFits::Pairs(fits), lit)
 }
 
 // The stock of a file, with its fits in the first slice and its lit pairs in the other. Question 8 bounds the fits; lit pairs are as many as a file of

@@ -32,7 +32,7 @@ use files::stocks::read_stock;
 use formats::limits::{FITS_MOST, LINES_MOST, PLAN_PAIRS_MOST, ROOM};
 use formats::refusals::Refusal;
 use frames::ask::ask;
-use numbers::{cameras_in, put_kept, put_stock, read_fits};
+use numbers::{cameras_in, lend_fits, put_kept, put_stock};
 use slots::{close_up, find, store, write_pairs};
 
 pub const STATE: usize = 8828;
@@ -58,10 +58,8 @@ pub fn bring(state: &mut [u8; STATE], file: &[u8]) -> Result<(), Refusal>
 pub fn keep(state: &mut [u8; STATE], name: u8, file: &[u8]) -> Result<(), Refusal>
     ensures { Owes state.old (keep_as name file.now) (refusal_in result) state.new }
 {
-    let mut fits = [Pair::default(); FITS_MOST];
-    let fits_count = read_fits(state, &mut fits);
     let mut pairs = [Pair::default(); PLAN_PAIRS_MOST];
-    let count = read_plan(file, cameras_in(state), &fits[..fits_count], &mut pairs)?;
+    let count = read_plan(file, cameras_in(state), lend_fits(state), &mut pairs)?;
     store(state, name, &pairs[..count])
 }
 

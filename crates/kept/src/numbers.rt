@@ -2,18 +2,19 @@
 //   KEPT                        where the number of names stands
 //   FITS, SLOTS                 where the fits stand, and where the slots begin
 //   cameras_in, kept_in         the numbers; one above what there is room for stands for that
-//   read_fits                   the fits, and how many they are, which is such a number too
+//   lend_fits                   the fits, where they stand; how many they are is such a number too
 //   put_kept, put_stock         another number of names; another stock, and no name
 ghost use Rattle.std.specs.Prelude.{◌≡◌, ◌≤◌, length};
 ghost use Rattle.formats.specs.Limits.{cameras_most, fits_most, names_most};
+ghost use Rattle.files.specs.LentFits.{fits_of};
 ghost use Rattle.kept.specs.Block.{cameras_in, kept_in, state_of};
-ghost use Rattle.kept.specs.Columns.{ColumnsRead};
 ghost use Rattle.kept.specs.Slots.{StockPut, KeptPut};
 
 use crate::STATE;
 use crate::bytes::put_bytes;
 use crate::columns::Columns;
 use counting::Pair;
+use files::look_up::LentFits;
 use formats::limits::{CAMERAS_MOST, FITS_MOST, NAMES_MOST};
 
 const KEPT: usize = 3;
@@ -38,12 +39,11 @@ pub fn kept_in(state: &[u8; STATE]) -> usize
     usize::from(state[KEPT]).min(NAMES_MOST)
 }
 
-pub fn read_fits(state: &[u8; STATE], fits: &mut [Pair]) -> usize
-    requires { fits_most ≤ length fits.old }
-    ensures { ColumnsRead (state_of state.now).fits fits.old fits.new result }
+pub fn lend_fits(state: &[u8; STATE]) -> LentFits<'_>
+    ensures { fits_of result ≡ (state_of state.now).fits }
 {
     let count = usize::from(u16::from_be_bytes([state[1], state[2]])).min(FITS_MOST);
-    FITS.read(state, count, fits)
+    FITS.lend(state, count)
 }
 
 pub fn put_kept(state: &mut [u8; STATE], kept: usize)
