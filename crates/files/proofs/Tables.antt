@@ -4,7 +4,7 @@
 --   store_room, store_end                   stored one by one into a lent slice: there is room for one more; all are
 --   seconds_next, seconds_none              the classes of the lines left: the next line's, and those behind it; of no line
 --   zip_next, zip_none                      the pairs of the numbers left
---   zip_within, zip_least                   the pair at a place; how many pairs there are
+--   zip_least                               how many pairs there are of two lists
 use Rattle.std.proofs.Common.{◌≡◌, refl, ◌≢◌, ◌⊎◌, inl, inr, ap, subst, sym, ◌∙◌, List, [], ◌∷◌, ℕ, zero, suc, ◌+◌, ◌≤◌, arith, ◌<◌, length, get_or, take, drop, min}
 use lib.Seq.{length-sets}
 use lib.ListN.{drop_of_length-le}
@@ -77,13 +77,6 @@ zip_none [] vs h = refl
 zip_none (u ∷ us) [] h = refl
 zip_none (u ∷ us) (v ∷ vs) (inl h) = absurd (omega arith)
 zip_none (u ∷ us) (v ∷ vs) (inr h) = absurd (omega arith)
-
-pub zip_within : (xs ys : List ℕ) (i : ℕ) → i < length (zip_pairs xs ys) → get_or (zip_pairs xs ys) i no_pair ≡ pair (get_or xs i 0) (get_or ys i 0)
-unfolding zip_pairs
-zip_within [] ys i h = absurd (omega arith)
-zip_within (x ∷ xs) [] i h = absurd (omega arith)
-zip_within (x ∷ xs) (y ∷ ys) zero h = refl
-zip_within (x ∷ xs) (y ∷ ys) (suc i) h = zip_within xs ys i (omega arith)
 
 pub zip_least : (us vs : List ℕ) → length (zip_pairs us vs) ≡ min (length us) (length vs)
 unfolding zip_pairs

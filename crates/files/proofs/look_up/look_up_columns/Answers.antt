@@ -3,7 +3,8 @@ use borrow.Author.Tests.{eq-eqb, ne_eqb, eqb-true, leb-true, leb-false, not-fals
 use Rattle.counting.specs.Pairs.{pair, zip_pairs}
 use Rattle.matching.specs.Stock.{same_pair}
 use Rattle.files.proofs.PairScans.{passed_next, end_by, ended_at, all_passed}
-use Rattle.files.proofs.Tables.{zip_within, zip_least}
+use Rattle.counting.proofs.Zips.{zip_within}
+use Rattle.files.proofs.Tables.{zip_least}
 use Rattle.files.proofs.look_up.look_up_columns.Goals as goal
 use Rattle.files.proofs.look_up.look_up_columns.Goals.{In-loop-i, then-pair-firsts-2, else-pair-firsts-2, then-firsts-i, else-firsts-i, else-pair-firsts-via-then-pair-firsts+else-pair-seconds, else-pair-firsts-via-else-pair-firsts}
 
