@@ -2,7 +2,9 @@
 //   digit_byte, put_number         a number in two digits
 //   put_frame_by                   a frame with numbers of two digits, of a kind by its number
 //   put_frame                      the same of a kind
-//   fields_of4, put_frame_of4      a number of four digits as two fields; a frame with one
+//   fields_of4                     a number of four digits as two fields
+//   put_frame_of4_by               a frame with one, of a kind by its number
+//   put_frame_of4                  the same of a kind
 //   put_barrier_line               the first line of a barrier
 //   begins_barrier                 does a file begin with it?
 ghost use Rattle.std.specs.Prelude.{◌≡◌, ◌∷◌, ◌+◌, ◌*◌, ◌/◌, ◌<◌, ◌≤◌, length};
@@ -66,14 +68,22 @@ pub fn fields_of4(value: usize) -> (usize, usize)
     (value / 256, value)
 }
 
-// The kind, and one number in four digits.
+// The kind, by its number, and one number in four digits.
+// kept beside put_frame_of4: a kind by its number, so that no more is asked of a caller than was
 #[tactic(auto, using(crate::proofs::Writes::frame_of4_parts))]
+pub fn put_frame_of4_by(out: &mut SliceVec<'_, u8>, kind: usize, value: usize)
+    requires { out.old.len + 7 ≤ length out.old.slice.now }
+    ensures { Extended out.old (frame_of4 kind value) out.new }
+{
+    let (upper, lower) = fields_of4(value);
+    put_frame_by(out, kind, &[upper, lower]);
+}
+
 pub fn put_frame_of4(out: &mut SliceVec<'_, u8>, kind: Kind, value: usize)
     requires { out.old.len + 7 ≤ length out.old.slice.now }
     ensures { Extended out.old (frame_of4 (kind_number kind) value) out.new }
 {
-    let (upper, lower) = fields_of4(value);
-    put_frame(out, kind, &[upper, lower]);
+    put_frame_of4_by(out, usize::from(kind), value);
 }
 
 #[tactic(auto, unfolding(crate::specs::Frames::hex_bytes))]
