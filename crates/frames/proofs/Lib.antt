@@ -8,6 +8,7 @@
 --   BodyFrames    questions 6 and 7, line by line
 --   HeaderFrames  questions 2, 3 and 4, and the first line
 --   ShapeFaults   questions 2 to 7 together
+--   TwoDigits     the table of numbers in two digits
 --   Writes        bytes written one behind the other into a lent slice
 --   Begins        files that begin with a text
 --   LineCounts    how many lines a file of so many bytes has
@@ -23,6 +24,7 @@ pub mod Questions
 pub mod BodyFrames
 pub mod HeaderFrames
 pub mod ShapeFaults
+pub mod TwoDigits
 pub mod Writes
 pub mod Begins
 pub mod LineCounts

@@ -1,5 +1,5 @@
 // Frames written into a buffer that the caller lends (document 01, "Frames"), each behind what stands there already.
-//   digit_byte, put_number         a number in two digits
+//   TWO_DIGITS, put_number         a number in two digits
 //   put_frame_by                   a frame with numbers of two digits, of a kind by its number
 //   put_frame                      the same of a kind
 //   fields_of4                     a number of four digits as two fields
@@ -10,7 +10,7 @@
 ghost use Rattle.std.specs.Prelude.{◌≡◌, ◌∷◌, ◌+◌, ◌*◌, ◌/◌, ◌<◌, ◌≤◌, length};
 ghost use Rattle.formats.specs.Kinds.{kind_number, barrier_kind};
 ghost use Rattle.counting.specs.SliceVecs.{Extended};
-ghost use Rattle.frames.specs.Frames.{digit_byte, hex_bytes, frame_bytes, frame2, frame_of4};
+ghost use Rattle.frames.specs.Frames.{hex_bytes, frame_bytes, frame2, frame_of4};
 ghost use Rattle.frames.specs.Writes.{begins_barrier};
 
 use counting::slice_vec::SliceVec;
@@ -22,21 +22,23 @@ const BARRIER_LINE: [u8; 3] = *b"31\n";
 // The same line ended the other way: compared, never written.
 const BARRIER_LINE_CR_LF: [u8; 4] = *b"31\r\n";
 
-fn digit_byte(d: usize) -> u8
-    requires { d < 16 }
-    ensures { result ≡ digit_byte d }
-{
-    b"0123456789ABCDEF"[d]
-}
+// The numbers below 256, each in two digits.
+// kept: a table, of which both digits are read at once; digit by digit a line takes 10 instructions more (docs/DECISIONS.md, D82)
+static TWO_DIGITS: [u8; 512] = *b"\
+000102030405060708090A0B0C0D0E0F101112131415161718191A1B1C1D1E1F202122232425262728292A2B2C2D2E2F303132333435363738393A3B3C3D3E3F\
+404142434445464748494A4B4C4D4E4F505152535455565758595A5B5C5D5E5F606162636465666768696A6B6C6D6E6F707172737475767778797A7B7C7D7E7F\
+808182838485868788898A8B8C8D8E8F909192939495969798999A9B9C9D9E9FA0A1A2A3A4A5A6A7A8A9AAABACADAEAFB0B1B2B3B4B5B6B7B8B9BABBBCBDBEBF\
+C0C1C2C3C4C5C6C7C8C9CACBCCCDCECFD0D1D2D3D4D5D6D7D8D9DADBDCDDDEDFE0E1E2E3E4E5E6E7E8E9EAEBECEDEEEFF0F1F2F3F4F5F6F7F8F9FAFBFCFDFEFF";
 
 // The two lowest digits of `value`.
-#[tactic(auto, unfolding(crate::specs::Frames::hex_bytes))]
 fn put_number(out: &mut SliceVec<'_, u8>, value: usize)
     requires { out.old.len + 2 ≤ length out.old.slice.now }
     ensures { Extended out.old (hex_bytes 2 value) out.new }
 {
-    out.push(digit_byte(value / 16 % 16));
-    out.push(digit_byte(value % 16));
+    let at = value % 256 * 2;
+    let (upper, lower) = (TWO_DIGITS[at], TWO_DIGITS[at + 1]);
+    out.push(upper);
+    out.push(lower);
 }
 
 // The kind, by its number, each of the fields in two digits, and a line feed.
