@@ -3,7 +3,7 @@
 --   lines_next, lines_end                              one more line is written; all are
 --   class_lines_lem, mark_lines_lem                    document 03's lines are such lines: a barrier's and a sheet's,
 --   path_lines_lem, pair_lines_lem                     a path's, and those of a plan and of a budget's answer
---   column_lines_lem                                   the same by first cameras, the second ones looked up
+--   column_lines_lem                                   the same of pairs in two columns
 --   plan_text_lem, budget_text_lem                     and so a plan's text and a budget's
 --   plan_size, budget_size, sheet_size                 how many bytes a plan, a budget's answer and a standing sheet take
 --   header_then                                        a header and what stands behind it are a text
@@ -66,13 +66,12 @@ unfolding each_line plan_lines
 pair_lines_lem n [] = refl
 pair_lines_lem n (x ∷ xs) = ap (λ (t : List ℕ). frame6 pair_kind x.first x.second ++ t) (pair_lines_lem (suc n) xs)
 
-pub column_lines_lem : (n : ℕ) (us vs : List ℕ) → n + length us ≡ length vs →
+pub column_lines_lem : (n : ℕ) (us vs : List ℕ) → n + length us ≤ length vs →
     each_line (λ (i : ℕ) (x : ℕ). frame6 pair_kind x (get_or vs i 0)) n us ≡ plan_lines (zip_pairs us (drop n vs))
 unfolding each_line plan_lines zip_pairs
 column_lines_lem n [] vs h = refl
 column_lines_lem n (u ∷ us) vs h =
-    let e : drop n vs ≡ get_or vs n 0 ∷ drop (suc n) vs = drop-cons vs n 0 (omega arith) in
-    rw e (ap (λ (t : List ℕ). frame6 pair_kind u (get_or vs n 0) ++ t) (column_lines_lem (suc n) us vs (omega arith)))
+    rw (drop-cons vs n 0 (omega arith)) (ap (λ (t : List ℕ). frame6 pair_kind u (get_or vs n 0) ++ t) (column_lines_lem (suc n) us vs (omega arith)))
 
 pub plan_text_lem : (us vs : List ℕ) → length vs ≡ length us →
     frame4 plan_kind (length us) ++ each_line (λ (i : ℕ) (x : ℕ). frame6 pair_kind x (get_or vs i 0)) 0 us ++ frame_of4 plan_end (length us) ≡

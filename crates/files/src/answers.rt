@@ -2,13 +2,14 @@
 // standing sheet (document 02, L6), and what a budget of searches comes to (L4).
 //   put_body                      what stands behind a file's header: a frame for each value, and the end frame
 //   put_numbered, put_pairs       that of numbered values; a whole file of pairs
-//   put_path, put_barrier, put_plan, put_plan_and_sheet, put_budget     whole answers
+//   put_path, put_barrier, put_plan, put_plan_columns, put_plan_and_sheet, put_budget     whole answers
 ghost use Rattle.std.specs.Prelude.{◌≡◌, List, ℕ, ◌+◌, ◌*◌, ◌≤◌, ◌++◌, length};
 ghost use Rattle.formats.specs.Kinds.{kind_number};
 ghost use Rattle.counting.specs.SliceVecs.{Extended};
+ghost use Rattle.counting.specs.Pairs.{zip_pairs};
 ghost use Rattle.counting.specs.declared.Pair.{Pair};
 ghost use Rattle.frames.specs.Frames.{frame6};
-ghost use Rattle.files.specs.Answers.{each_line, body_text, text_of, MakesLines, WrittenFirst};
+ghost use Rattle.files.specs.Answers.{each_line, body_text, text_of, TakesEach, MakesLines, WrittenFirst};
 ghost use Rattle.files.specs.StockFile.{sheet_with, plan_text, budget_text};
 ghost use Rattle.files.specs.CertificateFile.{path_text, barrier_text};
 
@@ -25,7 +26,7 @@ fn put_body<T, F: Fn(usize, &T) -> (usize, usize)>(
     fields: F,
 )
     requires room { out.old.len + (7 * length values.now + 7) ≤ length out.old.slice.now }
-    requires callable { F.IsAlwaysCallable fields }
+    requires callable { TakesEach F.Fn fields values.now }
     ensures { (line : ℕ → T → List ℕ) → MakesLines F.Fn fields (kind_number layout.first) line → Extended out.old (body_text layout (each_line line 0 values.now) (length values.now)) out.new }
 {
     // invariant: with the lines that are left, all are written, and the end frame has room behind them
@@ -83,6 +84,23 @@ pub fn put_plan(out: &mut [u8], pairs: &[Pair]) -> usize
 {
     let mut text = SliceVec::new(out);
     put_pairs(&mut text, PLAN, &[pairs.len()], pairs);
+    text.len
+}
+
+// The same of pairs whose first numbers stand in one slice and whose second ones in another.
+// kept beside put_plan: pairs as the block of kept pairings has them, which else were copied to be written
+#[tactic(auto, using(frames::proofs::Writes::written_sizes))]
+pub fn put_plan_columns(out: &mut [u8], firsts: &[u8], seconds: &[u8]) -> usize
+    requires enough { length firsts.now ≤ length seconds.now }
+    requires room { 12 + 7 * length firsts.now ≤ length out.old }
+    ensures text { WrittenFirst (plan_text (zip_pairs firsts.now seconds.now)) out.old out.new result }
+    ensures size { result ≡ 12 + 7 * length firsts.now }
+{
+    let mut text = SliceVec::new(out);
+    put_frame(&mut text, PLAN.header, &[firsts.len()]);
+    put_body(&mut text, PLAN, firsts, |i, first| {
+        (usize::from(*first), usize::from(seconds[i]))
+    });
     text.len
 }
 

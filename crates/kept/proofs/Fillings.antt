@@ -16,12 +16,11 @@ use Rattle.counting.specs.Pairs.{pairs_of}
 use Rattle.counting.specs.declared.Pair.{Pair}
 use Rattle.files.specs.StockFile.{plan_text}
 use Rattle.files.specs.Answers.{WrittenFirst}
-use Rattle.files.proofs.Tables.{back_stored}
 use Rattle.kept.specs.State.{without, place_fault}
 use Rattle.kept.specs.Block.{slots_at, slot_size, slot_at, block_size, pairs_at, others_at, kept_in, slot_of, named_in, entries_in, state_of}
-use Rattle.kept.specs.Columns.{column_pairs, ColumnsRead, ColumnsPut}
+use Rattle.kept.specs.Columns.{column_pairs, ColumnsPut}
 use Rattle.kept.specs.Slots.{KeptPut, ClosedUp, PairsPut, Stored}
-use Rattle.kept.proofs.PairColumns.{columns_few, columns_most, columns_after, header_back, pairs_back}
+use Rattle.kept.proofs.PairColumns.{columns_most, columns_after, header_back, pairs_back}
 use Rattle.kept.proofs.Entries.{entries_same, entries_length, slot_byte, slot_part}
 use Rattle.kept.proofs.ByName.{placed_few}
 use Rattle.kept.proofs.Fronts.{kept_put}
@@ -48,16 +47,15 @@ pairs_put b to n {b₂ = b₂} ps u v whole low few =
     record { entries = rw (e, s); front = columns_after b (slot_at to) header u v slots_at 0 (omega arith) }
 
 -- ITS PAIRS WRITTEN
-pub pairs_written : (i : ℕ) (b : List ℕ) {k r count : ℕ} {before pairs : List Pair} {out out' : List ℕ} → k ≡ min (get_or b (slot_at i + 1) 0) pairs_most →
-    ColumnsRead (column_pairs (slot_at i + pairs_at) pairs_most k b) before pairs count → WrittenFirst (plan_text (take count pairs)) out out' r →
-    r ≡ 12 + 7 * length (take count pairs) → WrittenFirst (plan_text (named_in i b).pairs) out out' r × (r ≤ room)
-pairs_written i b {k} {r} {count} {pairs = pairs} {out} {out'} f c w size =
+pub pairs_written : (i : ℕ) (b : List ℕ) {k r : ℕ} {ps : List Pair} {out out' : List ℕ} → k ≡ min (get_or b (slot_at i + 1) 0) pairs_most →
+    ps ≡ column_pairs (slot_at i + pairs_at) pairs_most k b → WrittenFirst (plan_text ps) out out' r → r ≡ 12 + 7 * k →
+    WrittenFirst (plan_text (named_in i b).pairs) out out' r × (r ≤ room)
+pairs_written i b {k} f pairs w size =
     let at = slot_at i + pairs_at in
-    let back : take count pairs ≡ column_pairs at pairs_most k b = (back_stored c.counts c.entries).1 in
+    let n = get_or b (slot_at i + 1) 0 in
     let same : column_pairs at pairs_most k b ≡ (named_in i b).pairs =
-    rw (f, columns_most at pairs_most (get_or b (slot_at i + 1) 0) b, slot_byte i b 1 (omega arith)) (sym (slot_columns i b (get_or b (slot_at i + 1) 0))) in
-    let few : length (take count pairs) ≤ pairs_most = rw back (omega (arith, columns_few at pairs_most k b (omega arith))) in
-    (rw (back ∙ same) at w, omega (arith, size, few))
+    rw (f, columns_most at pairs_most n b, slot_byte i b 1 (omega arith)) (sym (slot_columns i b n)) in
+    (rw (pairs ∙ same) at w, omega (arith, f, size))
 
 -- PAIRS KEPT
 module _ (b : List ℕ) (n : ℕ) where

@@ -1,13 +1,12 @@
 // Pairs of cameras as they stand in the block: their first cameras in a column of bytes, and their second ones in another behind it (specs/Columns).
-//   Columns         where two columns begin, and how many bytes each has
+//   Columns         where two columns begin, and how many bytes each has: their parts, and pairs put into them
 ghost use Rattle.std.specs.Prelude.{◌≡◌, ◌+◌, ◌*◌, ◌≤◌, length};
-ghost use Rattle.files.specs.LentFits.{fits_of};
+ghost use Rattle.counting.specs.Pairs.{zip_pairs};
 ghost use Rattle.kept.specs.Block.{block_size};
-ghost use Rattle.kept.specs.Columns.{column_pairs, ColumnsPut, ColumnsRead};
+ghost use Rattle.kept.specs.Columns.{column_pairs, ColumnsPut};
 
 use crate::STATE;
 use counting::Pair;
-use files::look_up::{LentFits, pair_up};
 
 #[derive(Clone, Copy)]
 pub struct Columns {
@@ -17,32 +16,18 @@ pub struct Columns {
 }
 
 impl Columns {
-    // The first so many pairs, where they stand.
+    // The first so many bytes of both columns: the first numbers of so many pairs, and the second ones.
     #[tactic(auto, using(crate::proofs::PairColumns::column_parts))]
-    pub fn lend(self, state: &[u8; STATE], count: usize) -> LentFits<'_>
+    pub fn parts(self, state: &[u8; STATE], count: usize) -> (&[u8], &[u8])
         requires { count ≤ self.most }
-        ensures { fits_of result ≡ column_pairs self.at self.most count state.now }
+        ensures pairs { zip_pairs result.0.now result.1.now ≡ column_pairs self.at self.most count state.now }
+        ensures firsts { length result.0.now ≡ count }
+        ensures seconds { length result.1.now ≡ count }
     {
         let others = self.at + self.most;
-        LentFits::Columns(
+        (
             &state[self.at..self.at + count],
             &state[others..others + count],
-        )
-    }
-
-    // The first so many pairs, at the front of the slice: how many they are.
-    // kept: a count, as pair_up answers it; no contract can say what a slice holds once its `&mut` went into the result, as a part of it would
-    #[tactic(auto, using(crate::proofs::PairColumns::column_parts, crate::proofs::PairColumns::columns_few))]
-    pub fn read(self, state: &[u8; STATE], count: usize, pairs: &mut [Pair]) -> usize
-        requires few { count ≤ self.most }
-        requires room { count ≤ length pairs.old }
-        ensures { ColumnsRead (column_pairs self.at self.most count state.now) pairs.old pairs.new result }
-    {
-        let others = self.at + self.most;
-        pair_up(
-            &state[self.at..self.at + count],
-            &state[others..others + count],
-            pairs,
         )
     }
 

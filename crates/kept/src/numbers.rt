@@ -43,7 +43,8 @@ pub fn lend_fits(state: &[u8; STATE]) -> LentFits<'_>
     ensures { fits_of result ≡ (state_of state.now).fits }
 {
     let count = usize::from(u16::from_be_bytes([state[1], state[2]])).min(FITS_MOST);
-    FITS.lend(state, count)
+    let (firsts, seconds) = FITS.parts(state, count);
+    LentFits::Columns(firsts, seconds)
 }
 
 pub fn put_kept(state: &mut [u8; STATE], kept: usize)

@@ -17,7 +17,7 @@ use crate::bytes::put_bytes;
 use crate::numbers::{kept_in, put_kept};
 use crate::slot::{SLOT, Slot};
 use counting::Pair;
-use files::answers::put_plan;
+use files::answers::put_plan_columns;
 use formats::limits::{NAMES_MOST, PAIRS_MOST};
 use formats::refusals::Refusal;
 use frames::ask::ask;
@@ -102,7 +102,6 @@ pub fn write_pairs(state: &[u8; STATE], slot: Slot, out: &mut [u8]) -> usize
     ensures { WrittenFirst (plan_text (named_in slot.number state.now).pairs) out.old out.new result × (result ≤ room) }
 {
     let most = usize::from(state[slot.at() + 1]).min(PAIRS_MOST);
-    let mut pairs = [Pair::default(); PAIRS_MOST];
-    let count = slot.pairs().read(state, most, &mut pairs);
-    put_plan(out, &pairs[..count])
+    let (firsts, seconds) = slot.pairs().parts(state, most);
+    put_plan_columns(out, firsts, seconds)
 }

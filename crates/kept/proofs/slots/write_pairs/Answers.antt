@@ -5,6 +5,7 @@ use Rattle.kept.proofs.slots.write_pairs.Goals as goal
 
 pub returns : goal.returns
 returns c =
-    let columns = rw (c.pairs.ensures.at, c.pairs.ensures.most) at c.read-count.ensures in
     let most = c.min-most.ensures ∙ (rw (c.from.ensures, c.at.ensures)) in
-    pairs_written c.args.slot.number c.args.state.now most columns c.put_plan.ensures.text c.put_plan.ensures.size
+    let columns = rw (c.pairs.ensures.at, c.pairs.ensures.most) at c.parts.ensures.pairs in
+    let size = rw c.parts.ensures.firsts at c.put_plan_columns.ensures.size in
+    pairs_written c.args.slot.number c.args.state.now most columns c.put_plan_columns.ensures.text size
