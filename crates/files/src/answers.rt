@@ -29,7 +29,7 @@ fn put_body<T, F: Fn(usize, &T) -> (usize, usize)>(
     requires callable { TakesEach F.Fn fields values.now }
     ensures { (line : ℕ → T → List ℕ) → MakesLines F.Fn fields (kind_number layout.first) line → Extended out.old (body_text layout (each_line line 0 values.now) (length values.now)) out.new }
 {
-    // invariant: with the lines that are left, all are written, and the end frame has room behind them
+    // invariant: with the lines that are left, all are written, and the end frame has room behind them; falls: values left
     for (i, value) in values.iter().enumerate() {
         let (first, second) = fields(i, value);
         put_frame(out, layout.first, &[first, second]);

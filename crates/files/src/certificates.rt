@@ -39,7 +39,7 @@ fn put_classes(lines: &[Pair], classes: &mut [u8])
     ensures { StoredFirst (seconds_of lines.now) classes.old classes.new }
 {
     let mut stored = SliceVec::new(classes);
-    // invariant: with the classes that are left, all of them are stored
+    // invariant: with the classes that are left, all of them are stored; falls: lines left
     for line in lines {
         stored.push(line.second);
     }

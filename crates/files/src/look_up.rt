@@ -47,7 +47,7 @@ pub fn look_up_columns(firsts: &[u8], seconds: &[u8], pair: Pair) -> LookUp
     let count = firsts.len().min(seconds.len());
     // kept: by the index, since a zip asks both columns for their ends; compared here too, 5 instructions for each fit passed, since a function of a fit's
     // pair reads both cameras of each: a keep of 63 pairs among 3,900 fits takes 819,758 instructions, with such a function 2,096,299
-    // invariant: proofs/PairScans AllPassed
+    // invariant: proofs/PairScans AllPassed; falls: fits left
     for i in 0..count {
         if pair.first <= firsts[i] && (pair.first != firsts[i] || pair.second <= seconds[i]) {
             return LookUp {
@@ -89,7 +89,7 @@ pub fn pair_up(firsts: &[u8], seconds: &[u8], pairs: &mut [Pair]) -> usize
     ensures { StoredFirst (zip_pairs firsts.now seconds.now) pairs.old pairs.new × (result ≡ length (zip_pairs firsts.now seconds.now)) }
 {
     let mut paired = SliceVec::new(pairs);
-    // invariant: with the pairs that are left, all of them are stored
+    // invariant: with the pairs that are left, all of them are stored; falls: pairs left
     for (&first, &second) in firsts.iter().zip(seconds) {
         paired.push(Pair { first, second });
     }

@@ -85,7 +85,7 @@ pub fn none_shared(pairs: &[Pair]) -> bool
     ensures { result ≡ none_shared pairs.now }
 {
     let mut flags = [false; 256]; // kept: one for each byte, since a camera's number may be any
-    // invariant: proofs/SharedCameras shares_none, of the flags and the pairs that are left
+    // invariant: proofs/SharedCameras shares_none, of the flags and the pairs that are left; falls: pairs left
     for pair in pairs {
         let (first, second) = pair.numbers();
         if flags[first] || flags[second] {

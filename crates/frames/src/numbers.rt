@@ -32,7 +32,7 @@ pub fn number_at<const N: usize>(f: &[u8], at: usize) -> usize
 {
     let digits = &f[at..at + N];
     let mut number = 0;
-    // invariant: the number of the digits passed, and its bound
+    // invariant: the number of the digits passed, and its bound; falls: digits left
     for c in digits {
         number = 16 * number + digit_value(*c);
     }

@@ -54,7 +54,7 @@ fn read_body(g: &[u8], layout: Layout) -> Result<Body, Refusal>
     let mut count = 0;
     let mut firsts = 0;
     let mut kind = layout.first;
-    // invariant: proofs/BodyFrames BodyLeft
+    // invariant: proofs/BodyFrames BodyLeft; falls: lines left
     for line in (Lines { file: g, at: 0 }) {
         if line.next == g.len() {
             ask_end(g, line, layout.end, count)?;

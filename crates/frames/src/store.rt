@@ -30,7 +30,7 @@ pub fn store_by<T: From<Pair> + Copy>(g: &[u8], at: usize, kind: usize, out: &mu
     ensures few { result.count ≤ length out.new }
 {
     let mut stored = SliceVec::new(out);
-    // invariant: proofs/Stores Passing, Filling
+    // invariant: proofs/Stores Passing, Filling; falls: lines left
     for line in (Lines { file: g, at }) {
         if number_at::<2>(g, line.at) != kind {
             return Run {

@@ -48,7 +48,7 @@ pub fn put_frame_by(out: &mut SliceVec<'_, u8>, kind: usize, fields: &[usize])
     ensures { Extended out.old (frame_bytes (kind ∷ fields.now)) out.new }
 {
     put_number(out, kind);
-    // invariant: proofs/Writes FieldsWritten
+    // invariant: proofs/Writes FieldsWritten; falls: fields left
     for field in fields {
         put_number(out, *field);
     }

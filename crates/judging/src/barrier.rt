@@ -75,7 +75,7 @@ fn count_entries(arcs: &[Arc], classes: &[u8]) -> [u16; 256]
     ensures { (c : ℕ) → c < 256 → get_or result c 0 ≡ entries_into classes.now c arcs.now }
 {
     let mut entries = [0u16; 256];
-    // invariant: specs/Barriers Counting
+    // invariant: specs/Barriers Counting; falls: arcs left
     for arc in arcs {
         let (tail, head) = arc.ends();
         if classes[tail] == A {

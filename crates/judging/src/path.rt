@@ -20,7 +20,7 @@ pub fn is_wanted(source: usize, arcs: &[Arc], path: &[u16]) -> bool
     let mut used = [false; ARCS_MOST];
     seen[source] = true;
     let mut at = source;
-    // invariant: specs/Walks Walking
+    // invariant: specs/Walks Walking; falls: arcs left
     for &k in path {
         let i = usize::from(k);
         let (tail, head) = arcs[i].ends();

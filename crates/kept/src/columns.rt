@@ -36,7 +36,7 @@ impl Columns {
         ensures { ColumnsPut state.old self.at self.most pairs.now state.new }
     {
         // kept: by the index: a slot's 63 pairs take 241 instructions, by a loop for each column 331; behind a zip of two iter_mut a proof knows nothing
-        // invariant: proofs/PairColumns Putting
+        // invariant: proofs/PairColumns Putting; falls: pairs left
         for (i, pair) in pairs.iter().enumerate() {
             state[self.at + i] = pair.first;
             state[self.at + self.most + i] = pair.second;

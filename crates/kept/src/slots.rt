@@ -63,7 +63,7 @@ pub fn close_up(state: &mut [u8; STATE], name: u8) -> usize
     ensures { ClosedUp state.old name state.new result }
 {
     let mut left = 0;
-    // invariant: specs/Slots Closing
+    // invariant: specs/Slots Closing; falls: slots left
     for number in 0..kept_in(state) {
         left = pass_slot(state, Slot { number }, Slot { number: left }, name);
     }

@@ -2,7 +2,7 @@
 --   Entry              what each call answers and leaves: result and buffer, and what it comes to
 --   Tallies            the tally, and what calls in a row do to it
 --   Verdicts           the check's answer, part by part
---   Calls              a refused call by value, and an answered one
+--   Calls              the questions before a file's, and what a result tells and comes to
 --   Taken              a graph or a stock as it is read from a file
 --   GraphCalls         what the graph call answers by value
 --   StockCalls         what the stock call answers by value

@@ -36,7 +36,7 @@ pub fn marks_of(stock: &Stock<'_>, reached: &[bool], marks: &mut [u8])
 {
     let mut table = [false; CAMERAS_MOST];
     let flags = &mut table[..stock.cameras];
-    // invariant: specs/Table FlagsSet
+    // invariant: specs/Table FlagsSet; falls: fits left
     for fit in stock.fits {
         let (first, second) = fit.numbers();
         flags[first] = true;
@@ -44,7 +44,7 @@ pub fn marks_of(stock: &Stock<'_>, reached: &[bool], marks: &mut [u8])
     }
 
     let mut told = SliceVec::new(marks);
-    // invariant: with the marks of the cameras left, all are written
+    // invariant: with the marks of the cameras left, all are written; falls: cameras left
     for (&flag, nodes) in flags.iter().zip(reached.chunks_exact(2)) {
         told.push(u8::from(mark_of(flag, nodes[0], nodes[1])));
     }

@@ -86,7 +86,7 @@ fn run_searches(most: usize, stock: &Stock<'_>, row: &mut [u8], reached: &mut [b
 {
     row_of(row, stock);
     let mut searches = 0;
-    // invariant: specs/Plan Improving; as many searches are counted as gave a pair
+    // invariant: specs/Plan Improving; as many searches are counted as gave a pair; falls: searches left
     for found in 0..most {
         searches = found + 1; // raised before the search
         if !improve(row, stock, reached) {

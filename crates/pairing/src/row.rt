@@ -36,7 +36,7 @@ pub fn augment(row: &mut [u8], arcs: &[Arc], path: &[usize])
     requires { Rotates (length row.old) (row_graph row.old arcs.now) path.now (partner_in row.old) }
     ensures { partner_in row.new ≡ rotate_along (row_graph row.old arcs.now) path.now (partner_in row.old) }
 {
-    // invariant: specs/Row Following
+    // invariant: specs/Row Following; falls: arcs of the path left
     for turn in path.chunks_exact(2) {
         let arc = arcs[turn[0]];
         rotate(row, arc.tail / 2, arc.head / 2);
@@ -48,13 +48,13 @@ pub fn row_of(row: &mut [u8], stock: &Stock<'_>)
     requires { length row.old ≡ stock.now.cameras }
     ensures { partner_in row.new ≡ partner stock.now.lit.now }
 {
-    // invariant: each camera so far is its own partner
+    // invariant: each camera so far is its own partner; falls: cameras left
     // kept: numbered by `enumerate`; what `iter_mut` writes under `zip` no proof knows once the loop is over
     for (k, own) in row.iter_mut().enumerate() {
         *own = k as u8; // kept: no From to fewer bits, and try_from asks anew what is proved
     }
 
-    // invariant: specs/Row LitFrom
+    // invariant: specs/Row LitFrom; falls: pairs left
     for pair in stock.lit.iter().rev() {
         let (first, second) = pair.numbers();
         row[second] = pair.first;
@@ -81,7 +81,7 @@ pub fn pairs_of(pairs: &mut SliceVec<'_, Pair>, row: &[u8])
     requires room { pairs.old.len + length row.now ≤ length pairs.old.slice.now }
     ensures { Extended pairs.old (pairs_in_order (partner_in row.now) (below (length row.now))) pairs.new }
 {
-    // invariant: the pairs of the cameras passed are written
+    // invariant: the pairs of the cameras passed are written; falls: cameras left
     for (&partner, k) in row.iter().zip(0u8..) {
         put_pair(pairs, k, partner);
     }

@@ -83,7 +83,7 @@ fn put_cameras(arcs: &mut SliceVec<'_, Arc>, row: &[u8])
     ensures { Extended arcs.old (arcs_of_cameras row.now (below (length row.now))) arcs.new }
 {
     let n = row.len() as u8; // kept: no From to fewer bits, and try_from asks anew what is proved
-    // invariant: the arcs of the cameras passed are written
+    // invariant: the arcs of the cameras passed are written; falls: cameras left
     for (&w, k) in row.iter().zip(0u8..) {
         put_camera(arcs, n, k, w);
     }
@@ -96,7 +96,7 @@ fn put_fits(arcs: &mut SliceVec<'_, Arc>, row: &[u8], stock: &Stock<'_>)
     requires room { arcs.old.len + 2 * length stock.now.fits.now ≤ length arcs.old.slice.now }
     ensures { Extended arcs.old (arcs_of_fits row.now stock.now.fits.now) arcs.new }
 {
-    // invariant: the arcs of the fits passed are written
+    // invariant: the arcs of the fits passed are written; falls: fits left
     for &fit in stock.fits {
         put_fit(arcs, fit, row[usize::from(fit.first)]);
     }

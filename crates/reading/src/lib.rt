@@ -19,6 +19,7 @@ pub fn read_full<R: Read>(reader: &mut R, buffer: &mut [u8]) -> usize
 {
     let mut done = 0;
     // kept: a place that jumps by as many bytes as a read gives, and a read may fail; no method of Read fills a slice as far as there is input
+    // invariant: what stands in the buffer so far is what the reader lost; falls: bytes of the buffer left
     while done < buffer.len() {
         match reader.read(&mut buffer[done..]) {
             Ok(0) | Err(_) => break,

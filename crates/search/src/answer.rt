@@ -25,7 +25,7 @@ fn tell_reached(labels: &Labels<'_>, reached: &mut [bool])
     ensures { ReachedTold labels.now.birth.now reached.old reached.new }
 {
     // kept: a node by its number, since is_reached is asked of a node; what iter_mut writes under zip no proof knows once the loop is over
-    // invariant: the flags of the nodes before v are told
+    // invariant: the flags of the nodes before v are told; falls: nodes left
     for (v, r) in reached.iter_mut().enumerate() {
         *r = labels.is_reached(v);
     }

@@ -81,7 +81,7 @@ pub fn fill_classes(graph: &Graph<'_>, labels: &Labels<'_>, class: &mut [u8])
         numbers: [None; NODES_MOST],
         next: FIRST_PART,
     };
-    // invariant: specs/ClassTable Numbering, and the classes of the nodes before v are told
+    // invariant: specs/ClassTable Numbering, and the classes of the nodes before v are told; falls: nodes left
     for (v, c) in class.iter_mut().enumerate() {
         *c = class_at(graph, labels, &mut parts, v);
     }

@@ -32,7 +32,7 @@ impl Queue<'_> {
         requires queued { Queued (queued_below labels.now.birth.now clock 0) (queue_of self.old) }
         ensures { Enqueued (queued_below labels.now.birth.now clock (length labels.now.birth.now)) (queue_of self.old) (queue_of self.new) }
     {
-        // invariant: proofs/Queues Enqueuing
+        // invariant: proofs/Queues Enqueuing; falls: nodes left
         for (v, b) in labels.birth.iter().enumerate() {
             if *b == clock {
                 self.reached.push(v);

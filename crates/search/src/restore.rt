@@ -18,7 +18,7 @@ fn mate_reverse(part: &mut [usize])
     requires { (k : ℕ) → k < length part.old → get_or part.old k 0 < arcs_most }
     ensures { part.new ≡ reverse_map mate part.old }
 {
-    // invariant: the arcs gone through are their mates
+    // invariant: the arcs gone through are their mates; falls: arcs left
     for arc in part.iter_mut() {
         *arc = mate_of(*arc);
     }

@@ -32,7 +32,7 @@ fn reset_bases(base: &mut [usize])
     requires { length base.old ≤ mate_pairs_most }
     ensures { EachIndex base.new (λ k. slice_index base.new k ≡ 2 * k) }
 {
-    // invariant: the bases before k are reset
+    // invariant: the bases before k are reset; falls: bases left
     for (k, b) in base.iter_mut().enumerate() {
         *b = 2 * k;
     }
@@ -72,7 +72,7 @@ impl State<'_> {
         ensures searching { Searching (graph_of graph.now) (tables_of self.new) }
         ensures taken { self.new.queue.taken ≡ self.old.queue.taken }
     {
-        // invariant: specs/Queue Scanned
+        // invariant: specs/Queue Scanned; falls: arcs left
         for (i, arc) in graph.arcs.iter().enumerate() {
             if usize::from(arc.tail) == x {
                 self.look(graph, i);

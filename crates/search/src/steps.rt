@@ -37,7 +37,7 @@ fn reach_absorbed(birth: &mut [usize], base: &[usize], mark: &[bool], clock: usi
     requires by_index { (j : ℕ) → j < length base.now → get_or base.now j 0 < length mark.now }
     ensures { Mapped (births_after base.now mark.now clock) birth.old birth.new (length birth.old) }
 {
-    // invariant: counting/specs/Loops Mapped births_after
+    // invariant: counting/specs/Loops Mapped births_after; falls: nodes left
     for (v, b) in birth.iter_mut().enumerate() {
         if *b == 0 && mark[base[v / 2]] {
             *b = clock;
@@ -51,7 +51,7 @@ fn rebase_absorbed(base: &mut [usize], mark: &[bool], to: usize)
     requires { (j : ℕ) → j < length base.old → get_or base.old j 0 < length mark.now }
     ensures { Mapped (bases_after mark.now to) base.old base.new (length base.old) }
 {
-    // invariant: counting/specs/Loops Mapped bases_after
+    // invariant: counting/specs/Loops Mapped bases_after; falls: bases left
     for b in base.iter_mut() {
         if mark[*b] {
             *b = to;
