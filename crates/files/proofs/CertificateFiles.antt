@@ -5,7 +5,7 @@
 --   path_read, path_nine                            what is answered then, and where question 9 refuses
 --   path_says, path_held                            of what is answered: document 03's fault over a graph, and the arc numbers held
 --   barrier_shape, barrier_eight, barrier_refused, barrier_room, barrier_read, barrier_nine, barrier_says, barrier_held
---                                                   the same of a barrier, whose classes are stored where nothing is refused
+--                                                   the same of a barrier, whose classes are stored beside its lines
 use Rattle.std.proofs.Common.{◌≡◌, refl, ap, subst, sym, ◌∙◌, Bool, true, List, [], ◌∷◌, ◌++◌, ℕ, ◌≤◌, arith, length, take, eqb, ltb, leb}
 use borrow.Author.Tests.{eqb-true, ltb-true, leb-true}
 use Rattle.std.specs.List.{list_all}

@@ -1,6 +1,7 @@
 -- The questions of a plan file, one after the other, and of a plan as it is written.
 --   plan_refused                         what is answered to a plan refused before anything is stored
---   plan_shape_lem, plan_seven           so where questions 2 to 7 refuse; question 7 refuses, of the header's number
+--   plan_shape_fault, plan_seven         questions 2 to 7 refuse; question 7 does, of the header's number
+--   plan_shape_lem                       what is answered where 2 to 7 refuse
 --   plan_long                            the header's number can be read
 --   plan_room, plan_holds                its pairs can be stored, and asked
 --   plan_read, plan_nine                 what is answered then, and where a later question refuses
@@ -71,11 +72,14 @@ plan_refused {cameras} {fits} {f} {us} e q =
       stores = none_stored (λ (zs : List Pair). zs) (plan_shape f) (plan_pairs f) us refl d;
     }
 
+pub plan_shape_fault : {f : List ℕ} {next count : ℕ} (e : Refusal) → ShapeAnswer plan_form f (refusal_number e) next count → refusal_number e ≡ first_no (plan_shape f)
+plan_shape_fault {f} e a =
+    let q = a.says ∙ shape_asked plan_form f true in
+    q ∙ sym (told_last f ∙ first_stop (shape_questions plan_form f true) (told_question f) (λ z. refusal_some e (q ∙ z)))
+
 pub plan_shape_lem : {cameras : ℕ} {fits : List Pair} {us : List Pair} {f : List ℕ} {next count : ℕ} (e : Refusal) → ShapeAnswer plan_form f (refusal_number e) next count →
     PlanRead cameras fits f us us (refusal_number e) 0
-plan_shape_lem {f = f} e a =
-    let q = a.says ∙ shape_asked plan_form f true in
-    plan_refused e (q ∙ sym (told_last f ∙ first_stop (shape_questions plan_form f true) (told_question f) (λ z. refusal_some e (q ∙ z))))
+plan_shape_lem e a = plan_refused e (plan_shape_fault e a)
 
 module _ {f : List ℕ} {next count : ℕ} (a : ShapeAnswer plan_form f 0 next count) where
   plan_shaped : Shaped plan_form f next count (length (plan_pairs f))

@@ -5,7 +5,7 @@
 --   seconds_next, seconds_none              the classes of the lines left: the next line's, and those behind it; of no line
 --   zip_next, zip_none                      the pairs of the numbers left
 --   zip_least                               how many pairs there are of two lists
-use Rattle.std.proofs.Common.{◌≡◌, refl, ◌≢◌, ◌⊎◌, inl, inr, ap, subst, sym, ◌∙◌, List, [], ◌∷◌, ℕ, zero, suc, ◌+◌, ◌≤◌, arith, ◌<◌, length, get_or, take, drop, min}
+use Rattle.std.proofs.Common.{◌≡◌, refl, ◌≢◌, ◌⊎◌, inl, inr, ap, subst, sym, ◌∙◌, List, [], ◌∷◌, ℕ, ◌+◌, ◌≤◌, arith, ◌<◌, length, get_or, take, drop, min}
 use lib.Seq.{length-sets}
 use lib.ListN.{drop_of_length-le}
 use borrow.Author.Tests.{ne_eqb}

@@ -77,6 +77,7 @@ pub fn put_barrier(out: &mut [u8], classes: &[u8]) -> usize
     text.len
 }
 
+// kept: no crate calls it, since put_plan_columns and put_plan_and_sheet write what the calls answer
 pub fn put_plan(out: &mut [u8], pairs: &[Pair]) -> usize
     requires { 12 + 7 * length pairs.now ≤ length out.old }
     ensures text { WrittenFirst (plan_text pairs.now) out.old out.new result }

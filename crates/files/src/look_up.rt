@@ -82,7 +82,7 @@ impl LentFits<'_> {
 }
 
 // The first numbers beside the second ones, as far as both go.
-// kept: two slices, as the block has them that C lends for kept pairings
+// kept: two slices, for who has columns and needs their pairs; no crate calls it, since look_up_columns and put_plan_columns need none
 // kept: their number, and not the part that they fill, for the reason that readers have (graphs::read_graph)
 pub fn pair_up(firsts: &[u8], seconds: &[u8], pairs: &mut [Pair]) -> usize
     requires { length (zip_pairs firsts.now seconds.now) ≤ length pairs.old }

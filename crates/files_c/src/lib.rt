@@ -1,4 +1,4 @@
-// The look-up of question 13 for C and Rust, so that the outside tests can ask how many fits it looks at: no call of the engine passes that on.
+// The look-up of question 13 in two columns, for C and Rust, so that the outside tests can ask how many fits it looks at: no call of the engine passes that on.
 //   files_look_up    a pair looked up among the fits of two slices
 #![tactic(auto)]
 

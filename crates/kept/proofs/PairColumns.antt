@@ -11,11 +11,11 @@ use mathlib.Core.List.{List, [], ◌∷◌}
 use Prim.Native.Nat.{ℕ, suc, ◌+◌, ◌-◌, ◌≤◌, ◌<◌, min}
 use native.Mathlib.Omega.{arith}
 use native.Mathlib.Numerals.{add-one}
-use lib.ListN.{length, get_or, set, take, drop, length-take, length-drop, drop_of_length-le}
+use lib.ListN.{length, get_or, set, take, drop, length-drop, drop_of_length-le}
 use lib.Seq.{sets, drop-cons, length-sets, take-take, set_comm}
 use Rattle.counting.specs.Pairs.{no_pair, firsts_of, seconds_of, zip_pairs, pairs_of}
 use Rattle.counting.specs.declared.Pair.{Pair}
-use Rattle.counting.proofs.Zips.{firsts_length, seconds_length, zip_low, zip_ends}
+use Rattle.counting.proofs.Zips.{firsts_length, seconds_length, zip_ends}
 use Rattle.counting.proofs.Stores.{get_d_sets_out, get_d_sets_in}
 use Rattle.counting.proofs.Parts.{take_twice, part_outside, part_inside}
 use Rattle.frames.specs.Lines.{part}

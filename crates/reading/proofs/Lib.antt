@@ -1,3 +1,3 @@
 -- Laws by subject.
 --   KnownBytes      bytes that a reader gave, read after read
-mod KnownBytes
+pub mod KnownBytes
