@@ -6,7 +6,7 @@
 use mathlib.Core.Path.{◌≡◌, refl, sym, ap, ◌∙◌}
 use mathlib.Core.Logic.{◌≢◌}
 use mathlib.Core.List.{List, [], ◌∷◌}
-use Prim.Native.Nat.{ℕ, ◌+◌, ◌*◌, ◌≤◌, ◌<◌, min}
+use Prim.Native.Nat.{ℕ, ◌+◌, ◌≤◌, ◌<◌, min}
 use native.Mathlib.Omega.{arith}
 use native.Mathlib.Numerals.{add-one}
 use lib.ListN.{length, get_or, take, drop}
@@ -16,11 +16,12 @@ use Rattle.counting.specs.Pairs.{pairs_of}
 use Rattle.counting.specs.declared.Pair.{Pair}
 use Rattle.files.specs.StockFile.{plan_text}
 use Rattle.files.specs.Answers.{WrittenFirst}
+use Rattle.files.proofs.AnswerLines.{plan_size}
 use Rattle.kept.specs.State.{without, place_fault}
 use Rattle.kept.specs.Block.{slots_at, slot_size, slot_at, block_size, pairs_at, others_at, kept_in, slot_of, named_in, entries_in, state_of}
 use Rattle.kept.specs.Columns.{column_pairs, ColumnsPut}
 use Rattle.kept.specs.Slots.{KeptPut, ClosedUp, PairsPut, Stored}
-use Rattle.kept.proofs.PairColumns.{columns_most, columns_after, header_back, pairs_back}
+use Rattle.kept.proofs.PairColumns.{columns_few, columns_most, columns_after, header_back, pairs_back}
 use Rattle.kept.proofs.Entries.{entries_same, entries_length, slot_byte, slot_part}
 use Rattle.kept.proofs.ByName.{placed_few}
 use Rattle.kept.proofs.Fronts.{kept_put}
@@ -48,14 +49,15 @@ pairs_put b to n {b₂ = b₂} ps u v whole low few =
 
 -- ITS PAIRS WRITTEN
 pub pairs_written : (i : ℕ) (b : List ℕ) {k r : ℕ} {ps : List Pair} {out out' : List ℕ} → k ≡ min (get_or b (slot_at i + 1) 0) pairs_most →
-    ps ≡ column_pairs (slot_at i + pairs_at) pairs_most k b → WrittenFirst (plan_text ps) out out' r → r ≡ 12 + 7 * k →
+    ps ≡ column_pairs (slot_at i + pairs_at) pairs_most k b → WrittenFirst (plan_text ps) out out' r →
     WrittenFirst (plan_text (named_in i b).pairs) out out' r × (r ≤ room)
-pairs_written i b {k} f pairs w size =
+pairs_written i b {k} {r} {ps} f pairs w =
     let at = slot_at i + pairs_at in
     let n = get_or b (slot_at i + 1) 0 in
     let same : column_pairs at pairs_most k b ≡ (named_in i b).pairs =
     rw (f, columns_most at pairs_most n b, slot_byte i b 1 (omega arith)) (sym (slot_columns i b n)) in
-    (rw (pairs ∙ same) at w, omega (arith, f, size))
+    let few : length ps ≤ k = rw pairs (columns_few at pairs_most k b (omega arith)) in
+    (rw (pairs ∙ same) at w, omega (arith, f, few, w.told, plan_size ps))
 
 -- PAIRS KEPT
 module _ (b : List ℕ) (n : ℕ) where

@@ -1,7 +1,7 @@
 -- Pairs in two columns of one size, read and written; behind a header, as a stock and a slot have them.
 --   Putting b at most ps b' i       with the pairs from i on put too, all of them stand in the columns
 --   putting_next, putting_end       one pair more; all of them
---   column_parts                    the columns as slices are taken
+--   column_parts, columns_few       the columns as slices are taken; how many pairs they say at most
 --   columns_most                    a number of pairs above what the columns have room for stands for that
 --   columns_after                   behind a header: what stands before it stays
 --   header_back, pairs_back         a number of the header, and the pairs, read back
@@ -11,11 +11,11 @@ use mathlib.Core.List.{List, [], ◌∷◌}
 use Prim.Native.Nat.{ℕ, suc, ◌+◌, ◌-◌, ◌≤◌, ◌<◌, min}
 use native.Mathlib.Omega.{arith}
 use native.Mathlib.Numerals.{add-one}
-use lib.ListN.{length, get_or, set, take, drop, length-drop, drop_of_length-le}
+use lib.ListN.{length, get_or, set, take, drop, length-take, length-drop, drop_of_length-le}
 use lib.Seq.{sets, drop-cons, length-sets, take-take, set_comm}
 use Rattle.counting.specs.Pairs.{no_pair, firsts_of, seconds_of, zip_pairs, pairs_of}
 use Rattle.counting.specs.declared.Pair.{Pair}
-use Rattle.counting.proofs.Zips.{firsts_length, seconds_length, zip_ends}
+use Rattle.counting.proofs.Zips.{firsts_length, seconds_length, zip_low, zip_ends}
 use Rattle.counting.proofs.Stores.{get_d_sets_out, get_d_sets_in}
 use Rattle.counting.proofs.Parts.{take_twice, part_outside, part_inside}
 use Rattle.frames.specs.Lines.{part}
@@ -56,6 +56,9 @@ module _ (at most n : ℕ) (b : List ℕ) (few : n ≤ most) where
       let e : (at + n) - at ≡ n = omega arith in
       let f : (at + most + n) - (at + most) ≡ n = omega arith in
       rw (e, f, take-take n most (drop at b) few, take-take n most (drop (at + most) b) few)
+
+  pub columns_few : length (column_pairs at most n b) ≤ n
+  columns_few = omega (arith, (zip_low (take n (take most (drop at b))) (take n (take most (drop (at + most) b)))).0, length-take n (take most (drop at b)))
 
 pub columns_most : (at most n : ℕ) (b : List ℕ) → column_pairs at most (min n most) b ≡ column_pairs at most n b
 columns_most at most n b =

@@ -7,5 +7,4 @@ pub returns : goal.returns
 returns c =
     let most = c.min-most.ensures ∙ (rw (c.from.ensures, c.at.ensures)) in
     let columns = rw (c.pairs.ensures.at, c.pairs.ensures.most) at c.parts.ensures.pairs in
-    let size = rw c.parts.ensures.firsts at c.put_plan_columns.ensures.size in
-    pairs_written c.args.slot.number c.args.state.now most columns c.put_plan_columns.ensures.text size
+    pairs_written c.args.slot.number c.args.state.now most columns c.put_plan_columns.ensures.text
